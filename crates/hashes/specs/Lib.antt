@@ -1,0 +1,6 @@
+pub mod Lists
+pub mod Word
+pub mod Polynomial
+pub mod Irreducible
+pub mod Laws
+pub mod Division

@@ -1,0 +1,6 @@
+// Keyed hashes of byte strings, by polynomials over GF(2).
+pub mod division;
+pub mod polynomial;
+#[cfg(test)]
+mod tests;
+pub mod word;
