@@ -28,7 +28,8 @@ impl Tally {
         println!(rt, "{lines} lines, {differ} differ")
     }
 
-    fn count(&mut self, same: bool) -> &'static str {
+    // Counts a line, and says whether it is as known.
+    pub fn count(&mut self, same: bool) -> &'static str {
         self.lines = self.lines.wrapping_add(1);
         if same {
             "ok"
