@@ -32,7 +32,7 @@ ben-or p = coprime-turns p (degree p / 2) 2
 
 -- ---- degrees
 
-degree-pos : {a : ℕ} → 1 ≤ degree a → 2 ≤ a
+pub degree-pos : {a : ℕ} → 1 ≤ degree a → 2 ≤ a
 degree-pos {a} h = go (decLe 2 a)
   where
     small : (b : ℕ) → 1 ≤ degree b → ¬ (2 ≤ b) → ⊥
@@ -44,7 +44,7 @@ degree-pos {a} h = go (decLe 2 a)
     go (yes k) = k
     go (no n) = absurd (small a h n)
 
-pos-degree : {a : ℕ} → 2 ≤ a → 1 ≤ degree a
+pub pos-degree : {a : ℕ} → 2 ≤ a → 1 ≤ degree a
 pos-degree {a} h = go (eq-zero-or-pos (degree a))
   where
     go : (degree a ≡ 0) ⊎ (0 < degree a) → 1 ≤ degree a

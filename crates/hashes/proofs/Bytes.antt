@@ -27,6 +27,13 @@ eight xs n =
     more : (i : ℕ) {ys zs : List ℕ} → ys ≡ zs → getD xs i 0 ∷ ys ≡ getD xs i 0 ∷ zs
     more i e = ap (λ (l : List ℕ). getD xs i 0 ∷ l) e
 
+-- eight bytes, highest first, as std sums them
+pub word8 :
+    (xs : List ℕ) → length xs ≡ 8
+    → getD xs 0 0 * 72057594037927936 + getD xs 1 0 * 281474976710656 + getD xs 2 0 * 1099511627776 + getD xs 3 0 * 4294967296 + getD xs 4 0 * 16777216 + getD xs 5 0 * 65536 + getD xs 6 0 * 256 + getD xs 7 0
+    ≡ word xs
+word8 xs n = let w = ap word (eight xs n) in omega arith
+
 -- bytes after a number
 pub after-word : (n : ℕ) (bs : List ℕ) → numberAfter 256 n bs ≡ n * 256 ^ length bs + word bs
 after-word n [] = omega arith

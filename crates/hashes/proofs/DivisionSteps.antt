@@ -1,5 +1,5 @@
 -- The division hash step by step: the entries of its table, and one byte after the other.
-use Prim.Native.Nat.{ℕ, _+_, _*_, _^_, _<_}
+use Prim.Native.Nat.{ℕ, _+_, _*_, _/_, _%_, _^_, _<_}
 use mathlib.Core.List.{List, [], _∷_}
 use mathlib.Core.Path.{_≡_, refl, sym, ap, _∙_}
 use native.Mathlib.Nat.{mul-assoc, mul-comm, zero-mul}
@@ -7,12 +7,12 @@ use native.Mathlib.Numerals.{lt-add-one}
 use lib.Bits.{bitXor}
 use lib.Pow.{pow-pos}
 use Rattle.hashes.specs.Division.{division, division-hash, division-step}
-use Rattle.hashes.specs.Polynomial.{degree, remainder, times, times-mod}
+use Rattle.hashes.specs.Polynomial.{degree, remainder, times-mod}
 use Rattle.hashes.specs.Word.{Bytes}
 use Rattle.hashes.proofs.Messages.{message-after}
 use Rattle.hashes.proofs.Remainder.{remainder-small, remainder-times-r, remainder-xor}
 use Rattle.hashes.proofs.Times.{times-comm, times-one-l}
-use Rattle.hashes.proofs.Words.{division-word, remainder-append, times-shl, word-degree, word-pos}
+use Rattle.hashes.proofs.Words.{division-word, remainder-append, table-step, times-shl, word-degree, word-pos}
 use Rattle.hashes.proofs.Xor.{xor-last, xor-shl}
 use Rattle.std.specs.Iters.{folded}
 use Rattle.std.specs.shelf.Digits.{numberAfter}
@@ -51,6 +51,10 @@ module _ (n w : ℕ) where
           ∙ remainder-xor (2 ^ n + w) (word-pos n w) (2 * t * 2 ^ n) (1 * 2 ^ n))
 
 -- ---- one byte after the other
+
+-- one lookup: e is the entry for the remainder's top byte and the new one
+pub division-lookup : (p r b e : ℕ) → p < 2 ^ 64 → e ≡ division 64 p (bitXor (r / 2 ^ 56) b) → bitXor (r * 2 ^ 8 % 2 ^ 64) e ≡ division-step p r b
+division-lookup p r b e h f = ap (bitXor (r * 2 ^ 8 % 2 ^ 64)) f ∙ table-step 56 8 p r b h
 
 pub division-moved : (p M : ℕ) (m : List ℕ) → Bytes m → folded (division-step p) (division 64 p M) m ≡ division 64 p (numberAfter 256 M m)
 division-moved p M [] h = refl

@@ -4,6 +4,7 @@ use mathlib.Core.List.{List, [], _∷_}
 use mathlib.Core.Path.{_≡_, sym, ap, _∙_}
 use lib.Bits.{bitXor, xor-assoc, xor-lt, xor-zero-r}
 use lib.ListN.{length}
+use Rattle.hashes.specs.Evaluation.{evaluation}
 use Rattle.hashes.specs.Field.{power, powers-sum}
 use Rattle.hashes.specs.Polynomial.{degree, times-mod}
 use Rattle.hashes.proofs.Field.{mod-assoc, mod-comm, mod-lt, mod-one-r, mod-xor-l}
@@ -33,3 +34,7 @@ module _ (p : ℕ) (pos : 0 < p) where
     where
       k : ℕ
       k = power p (length ws) a
+
+  pub evaluation-horner : (a : ℕ) (ws : List ℕ) → 1 < 2 ^ degree p → Fit p ws → evaluation p a ws ≡ times-mod p (evaluate p a 1 ws) a
+  unfolding evaluation powers-sum
+  evaluation-horner a ws h fit = ap (λ (x : ℕ). times-mod p x a) (sym (evaluate-sum a 1 ws h fit))

@@ -1,5 +1,5 @@
 -- The residues modulo an irreducible polynomial are a field.
-use mathlib.Core.Path.{_≡_, refl, sym, ap, ap₂, _∙_, subst}
+use mathlib.Core.Path.{_≡_, refl, sym, ap, _∙_, subst}
 use mathlib.Core.Logic.{_⊎_, inl, inr}
 use mathlib.Core.List.{List, [], _∷_}
 use Prim.Native.Nat.{ℕ, zero, suc, _+_, _^_, _≤_, _<_, suc-le-suc}
@@ -8,7 +8,7 @@ use native.Mathlib.Decide.{ℕ-discrete}
 use lib.Bits.{bitXor, xor-comm}
 use lib.ListN.{length}
 use lib.Pow.{pow-pos}
-use Rattle.hashes.specs.Field.{Field-laws, Residue-fields, power, powers-sum}
+use Rattle.hashes.specs.Field.{Residue-fields, power, powers-sum}
 use Rattle.hashes.specs.Irreducible.{Irreducible}
 use Rattle.hashes.specs.Lists.{_∈_, Distinct}
 use Rattle.hashes.specs.Polynomial.{Divides, degree, gcd, remainder, times, times-mod}

@@ -1,5 +1,6 @@
 -- lists
 pub mod Counting
+pub mod Pairs
 pub mod Tables
 pub mod Bytes
 -- polynomials
@@ -23,6 +24,25 @@ pub mod FieldLaws
 pub mod Least
 pub mod BenOr
 pub mod Modulus
+pub mod Trial
+-- families
+pub mod Absorbed
+pub mod Keys
 -- division
 pub mod Messages
 pub mod DivisionSteps
+pub mod DivisionLaw
+pub mod DivisionFamily
+-- Toeplitz
+pub mod Bits
+pub mod Act
+pub mod Lfsr
+pub mod ToeplitzMessage
+pub mod ToeplitzSteps
+pub mod ToeplitzLaw
+pub mod ToeplitzFamily
+-- evaluation
+pub mod EvaluationMessage
+pub mod EvaluationSteps
+pub mod EvaluationLaw
+pub mod EvaluationFamily

@@ -1,11 +1,11 @@
 -- The laws of polynomials over GF(2), put together.
-use Prim.Native.Nat.{ℕ, _+_, _^_}
+use Prim.Native.Nat.{_^_}
 use mathlib.Core.Path.{_≡_, sym, _∙_}
 use lib.Bits.{xor-assoc, xor-comm, xor-self, xor-zero-r}
 use lib.Pow.{pow-add}
 use Rattle.hashes.specs.Irreducible.{Irreducible}
 use Rattle.hashes.specs.Laws.{Polynomial-laws}
-use Rattle.hashes.specs.Polynomial.{Divides, degree, times}
+use Rattle.hashes.specs.Polynomial.{Divides, degree}
 use Rattle.hashes.proofs.Counting.{∈-all}
 use Rattle.hashes.proofs.Degree.{degree-lead, degree-times, lead-high, lead-low, times-zero}
 use Rattle.hashes.proofs.Divisors.{euclid, gcd-common, gcd-greatest, irreducible-divisors}

@@ -4,4 +4,8 @@ pub mod Polynomial
 pub mod Irreducible
 pub mod Laws
 pub mod Field
+pub mod Family
+pub mod KeyFault
 pub mod Division
+pub mod Toeplitz
+pub mod Evaluation

@@ -1,11 +1,20 @@
 // The division hash: the message's polynomial times x^64, modulo the polynomial x^64 + p.
 ghost use Prim.Native.Nat.{ℕ, _*_, _/_, _%_, _^_, _<_};
-ghost use Rattle.hashes.specs.Division.{division, division-hash, division-step};
-ghost use Rattle.std.specs.Iters.{folded};
+ghost use Rattle.hashes.specs.Division.{Division-facts, division, division-family, division-hash, division-state};
+ghost use Rattle.hashes.specs.Family.{absorbed};
 ghost use lib.Bits.{bitXor};
 ghost use lib.ListN.{getD};
 ghost use mathlib.Core.Path.{_≡_};
+use crate::family::Family;
+use crate::irreducible::is_irreducible;
+use crate::key_fault::KeyFault;
 use crate::polynomial::double;
+use crate::word::word_of;
+
+// The family's code, and how many bytes a key has.
+const CODE: u8 = 1;
+
+const KEY_LEN: usize = 8;
 
 // For each byte t, t x^64 modulo x^64 + p.
 #[derive(Drop)]
@@ -39,7 +48,7 @@ impl Table {
 
     // The remainder moved on by each byte of a part.
     fn absorb(&self, rest: u64, part: &[u8]) -> u64
-        ensures moves { λ r. ⌜ r ≡ folded (division-step (now (self .entry) .p)) rest (now (part .entry)) ⌝ }
+        ensures moves { λ r. ⌜ division-state (now (self .entry) .p) r ≡ absorbed division-family (division-state (now (self .entry) .p) rest) (now (part .entry)) ⌝ }
         ensures hashes { λ r. ⌜ (rest ≡ now (self .entry) .p → r ≡ division-hash rest (now (part .entry))) ⌝ }
     {
         let mut sum = rest;
@@ -57,9 +66,56 @@ fn place(rest: u64, byte: u8) -> u8
     (rest >> 56) as u8 ^ byte
 }
 
+#[derive(Drop)]
+pub struct Division {
+    table: Table,
+    rest: u64,
+}
+
+pub impl Family for Division as DivisionFamily {
+    ghost meaning = { division-family };
+
+    ghost state = { λ d. division-state (d .table .p) (d .rest) };
+
+    fn code() -> u8 {
+        CODE
+    }
+
+    fn key_len() -> usize {
+        KEY_LEN
+    }
+
+    fn open(key: &[u8]) -> Result<Division, KeyFault> {
+        let Some(p) = word_of(key) else {
+            return Err(KeyFault::Length);
+        };
+        if !is_irreducible(p) {
+            return Err(KeyFault::Reducible);
+        }
+        Ok(Division {
+            table: Table::new(p),
+            rest: p,
+        })
+    }
+
+    fn absorb(&mut self, part: &[u8]) {
+        let Division { table, rest } = self;
+        *rest = table.absorb(*rest, part);
+    }
+
+    fn digest(&mut self) -> u64 {
+        self.rest
+    }
+}
+
 // The division hash of a whole message, for any word p, a key or not. The remainder of the leading one alone is p.
 pub fn division_hash(p: u64, message: &[u8]) -> u64
     ensures { λ r. ⌜ r ≡ division-hash p (now (message .entry)) ⌝ }
 {
     Table::new(p).absorb(p, message)
 }
+
+// The family's hash is the formula, and its keys are the irreducible polynomials.
+pub fn division_facts()
+    ensures { λ _. ⌜ Division-facts ⌝ }
+{}
