@@ -40,7 +40,7 @@ pub fn checksums(rt: &LibcRuntime, tally: &mut Tally) -> io::Result<()> {
 }
 
 // Writes i modulo 251 at each place i.
-fn count_up(message: &mut [u8]) {
+pub fn count_up(message: &mut [u8]) {
     for i in 0..message.len() {
         message[i] = (i % 251) as u8;
     }

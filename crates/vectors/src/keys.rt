@@ -6,7 +6,7 @@ use std::io;
 // Checks one word, and prints the polynomial x^64 + word and what it is.
 fn check(rt: &LibcRuntime, tally: &mut Tally, word: u64, known: bool) -> io::Result<()> {
     let irreducible = is_irreducible(word);
-    let verdict = tally.count(irreducible == known);
+    let verdict = tally.verdict(irreducible == known);
     let kind = if irreducible {
         "irreducible"
     } else {

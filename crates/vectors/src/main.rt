@@ -1,6 +1,9 @@
-// Hashes messages with known answers and compares: a line for each, what was hashed and what came out, and a closing count.
+// Hashes messages and reads lines with known answers, and compares: a line for each, what went in and what came out, and a closing count.
 mod division;
+mod families;
 mod keys;
+mod lines;
+mod table;
 mod tally;
 
 use std::io;
@@ -13,5 +16,9 @@ fn main(rt: LibcRuntime) -> io::Result<()> {
     division::long(&rt, &mut tally)?;
     keys::irreducible(&rt, &mut tally)?;
     keys::reducible(&rt, &mut tally)?;
+    families::worked(&rt, &mut tally)?;
+    families::longer(&rt, &mut tally)?;
+    families::refusals(&rt, &mut tally)?;
+    lines::run(&rt, &mut tally)?;
     tally.close(&rt)
 }

@@ -17,7 +17,7 @@ impl Tally {
 
     // Prints a line with a word that came out, and whether it is the known one.
     pub fn word(&mut self, rt: &LibcRuntime, what: &str, word: u64, known: u64) -> io::Result<()> {
-        let verdict = self.count(word == known);
+        let verdict = self.verdict(word == known);
         println!(rt, "{what}: {word:016X} {verdict}")
     }
 
@@ -28,8 +28,14 @@ impl Tally {
         println!(rt, "{lines} lines, {differ} differ")
     }
 
+    // Prints a line without more to say.
+    pub fn line(&mut self, rt: &LibcRuntime, what: &str, same: bool) -> io::Result<()> {
+        let verdict = self.verdict(same);
+        println!(rt, "{what}: {verdict}")
+    }
+
     // Counts a line, and says whether it is as known.
-    pub fn count(&mut self, same: bool) -> &'static str {
+    pub fn verdict(&mut self, same: bool) -> &'static str {
         self.lines = self.lines.wrapping_add(1);
         if same {
             "ok"
