@@ -43,7 +43,7 @@ impl Table {
     fn step(&self, rest: u64, byte: u8) -> u64
         ensures { λ r. ⌜ r ≡ bitXor (rest * 2 ^ 8 % 2 ^ 64) (getD (now (self .entry) .words) (bitXor (rest / 2 ^ 56) byte) 0) ⌝ }
     {
-        (rest << 8) ^ self.words[place(rest, byte) as usize]
+        (rest << 8) ^ self.words[place(rest, byte)]
     }
 
     // The remainder moved on by each byte of a part.
@@ -60,10 +60,10 @@ impl Table {
 }
 
 // Where the entry stands that a byte adds to a remainder.
-fn place(rest: u64, byte: u8) -> u8
+fn place(rest: u64, byte: u8) -> usize
     ensures { λ r. ⌜ r ≡ bitXor (rest / 2 ^ 56) byte ⌝ }
 {
-    (rest >> 56) as u8 ^ byte
+    (rest >> 56) as usize ^ byte as usize
 }
 
 #[derive(Drop)]
