@@ -9,3 +9,5 @@ pub mod Judged
 pub mod Examples
 pub mod Fronts
 pub mod Decodings
+pub mod Progress
+pub mod Promised

@@ -4,3 +4,5 @@ pub mod Grammar
 pub mod Reading
 pub mod Exact
 pub mod Worked
+pub mod Calls
+pub mod Handover

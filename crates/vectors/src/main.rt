@@ -1,8 +1,11 @@
 // Hashes messages and reads lines with known answers, and compares: a line for each, what went in and what came out, and a closing count.
 mod division;
 mod families;
+mod images;
 mod keys;
+mod limits;
 mod lines;
+mod sites;
 mod table;
 mod tally;
 
@@ -20,5 +23,8 @@ fn main(rt: LibcRuntime) -> io::Result<()> {
     families::longer(&rt, &mut tally)?;
     families::refusals(&rt, &mut tally)?;
     lines::run(&rt, &mut tally)?;
+    sites::run(&rt, &mut tally)?;
+    limits::run(&rt, &mut tally)?;
+    images::run(&rt, &mut tally)?;
     tally.close(&rt)
 }

@@ -1,0 +1,16 @@
+pub mod Bytes
+pub mod Encoding
+pub mod Firsts
+pub mod Rows
+pub mod Runs
+pub mod Images
+pub mod ImageMessages
+pub mod Books
+pub mod Opened
+pub mod Steps
+pub mod Walk
+pub mod Checked
+pub mod Passing
+pub mod Bounds
+pub mod LongNames
+pub mod Writings

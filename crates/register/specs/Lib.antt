@@ -1,0 +1,17 @@
+pub mod Records
+pub mod Fields
+pub mod Faults
+pub mod First
+pub mod Book
+pub mod Known
+pub mod Run
+pub mod View
+pub mod Writing
+pub mod Inputs
+pub mod Values
+pub mod Image
+pub mod ImageMessage
+pub mod Reading
+pub mod Check
+pub mod Walking
+pub mod Facts
