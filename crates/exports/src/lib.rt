@@ -1,4 +1,6 @@
 // The libraries behind functions on numbers and byte slices that other languages can call. The benchmark is built on them.
+#![tactic(auto)]
+
 ghost use Rattle.std.specs.Prelude.{◌≡◌, ◌+◌, ◌^◌, ◌<◌, length, replicate, if◌then◌else◌};
 ghost use Rattle.exports.specs.Packed.{by_code, hash_or_zero, line_and_column, made_by_code, no_image, packed, packed_length, packed_seal, packed_verdict, refusal_number, seal_after};
 ghost use Rattle.hashes.specs.Division.{division_family};

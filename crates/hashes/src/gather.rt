@@ -1,7 +1,6 @@
 // A family made of any family: it holds back up to 64 bytes and hands them down together.
 ghost use Rattle.std.specs.Prelude.{◌≡◌, ◌+◌, ◌≤◌, ◌++◌, length, take};
 ghost use Rattle.hashes.specs.Family.{absorbed};
-ghost use Rattle.std.proofs.Common.{rules, arith};
 
 use crate::family::Family;
 use crate::key_fault::KeyFault;
@@ -15,12 +14,12 @@ pub struct Gather<F: Family> {
 }
 
 impl<F: Family> Family for Gather<F> {
-    ghost meaning = { F.Family.meaning };
+    ghost meaning = { F.meaning };
 
     // The state below, moved on by the bytes held.
-    ghost state = { λ g. absorbed F.Family.meaning (F.Family.state g.below) (take g.len g.held) };
+    ghost state = { λ g. absorbed F.meaning (F.state g.below) (take g.len g.held) };
 
-    ghost lawful = { first_of (Prim.search rules, Prim.grind (arith, Self.row.coded.inj)) };
+    ghost lawful = { F.lawful };
 
     fn code() -> u8 {
         F::code()
@@ -61,7 +60,7 @@ impl<F: Family> Gather<F> {
     // Hands the bytes held down.
     fn hand_down(&mut self)
         ensures empty { self.new.len ≡ 0 }
-        ensures below { state self.new.below ≡ absorbed meaning (state self.old.below) (take self.old.len self.old.held) }
+        ensures below { F.state self.new.below ≡ absorbed F.meaning (F.state self.old.below) (take self.old.len self.old.held) }
     {
         self.below.absorb(&self.held[..self.len]);
         self.len = 0;

@@ -1,4 +1,6 @@
 // Lines of a site file: what one says, or why it is refused and at which column, and the calls that lines make on a register.
+#![tactic(auto)]
+
 mod bytes;
 pub mod calls;
 mod cursor;

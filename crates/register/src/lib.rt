@@ -1,4 +1,6 @@
 // The register of a fire panel's site: records go in by calls, closing gives their seal, and an image is checked by it.
+#![tactic(auto)]
+
 mod book;
 pub mod check;
 pub mod facts;

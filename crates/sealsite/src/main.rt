@@ -1,4 +1,6 @@
 // Reads a code byte, a key buffer and the text of a site from standard input, and prints the seal, or why there is none.
+#![tactic(auto)]
+
 ghost use Rattle.std.specs.Prelude.{◌≡◌, ◌<◌, length, take, replicate, Ok, Err, MatchResult};
 ghost use Rattle.line_reader.specs.SiteInput.{input_limit, site_seal};
 ghost use Rattle.std.specs.Io.{ReadsAtMost};

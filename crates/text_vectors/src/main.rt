@@ -1,5 +1,7 @@
 // Makes images of texts and seals whole inputs with known answers, and compares: a line for each, what went in and what came out, and a closing
 // count.
+#![tactic(auto)]
+
 mod inputs;
 mod refused;
 mod tally;

@@ -1,4 +1,6 @@
 // Hashes messages and reads lines with known answers, and compares: a line for each, what went in and what came out, and a closing count.
+#![tactic(auto)]
+
 mod division;
 mod families;
 mod images;

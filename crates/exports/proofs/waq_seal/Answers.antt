@@ -8,7 +8,7 @@ pub returns-in-Ok : goal.returns-in-Ok
 returns-in-Ok c = record {
   answers = ap packed_seal c.in-Ok.ensures.seals;
   writes =
-      c.put-bytes.ensures ∙ ap (put c.args.seal.now 0) c.to-be-bytes.ensures
+      c.put_bytes.ensures ∙ ap (put c.args.seal.now 0) c.to_be_bytes.ensures
       ∙ ap (λ (s : SiteSeal). seal_after s c.args.seal.now) c.in-Ok.ensures.seals;
-  cleared = c.seal-input.ensures.cleared;
+  cleared = c.seal_input.ensures.cleared;
 }

@@ -15,7 +15,7 @@ loop-i-preserved c = (
       ∙ ap (times_mod modulus 2) c.loop-i.invariant.0
       ∙ multiple_up 1 (2 ^ c.loop-i.i) c.args.a
       ∙ ap (λ (x : ℕ). times_mod modulus x c.args.a) (sym (pow-add 2 c.loop-i.i 1)),
-  c.double-b.type-inv,
+  c.double-b.type_inv,
 )
 
 pub returns : goal.returns

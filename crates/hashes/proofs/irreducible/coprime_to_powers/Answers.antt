@@ -17,8 +17,8 @@ next : (p y z i : ℕ) → y ≡ frobenius p i 2 → z ≡ times_mod p y y → z
 unfolding frobenius
 next p y z i e f = f ∙ ap (λ (x : ℕ). times_mod p x x) e
 
-pub returns-then-not-apart-from-x : goal.returns-then-not-apart-from-x
-returns-then-not-apart-from-x c = record { value = λ turns. same_as_trial false P (decides turns); exact = decides }
+pub returns-then-not-apart_from_x : goal.returns-then-not-apart_from_x
+returns-then-not-apart_from_x c = record { value = λ turns. same_as_trial false P (decides turns); exact = decides }
   where
     P : ℕ
     P = 2 ^ 64 + c.args.p
@@ -29,7 +29,7 @@ returns-then-not-apart-from-x c = record { value = λ turns. same_as_trial false
     decides : c.args.turns ≡ 32 → Decides false (Irreducible P)
     decides turns = (
       λ e. let z : ◌≡◌ {A = ℕ} 0 1 = cc in absurd (omega arith),
-      λ irr. c.if-not-apart-from-x.ensures.1
+      λ irr. c.if-not-apart_from_x.ensures.1
           (ap (λ (x : ℕ). gcd P (bit_xor x 2)) z
           ∙ irreducible_passes irr (suc c.loop-i.i) (suc-le-suc zero-le) (omega (arith, turns, word_degree 64 c.args.p c.ranges.p.fits))),
     )
@@ -37,7 +37,7 @@ returns-then-not-apart-from-x c = record { value = λ turns. same_as_trial false
 pub loop-i-preserved : goal.loop-i-preserved
 loop-i-preserved c = (
   rw add-one z,
-  below_more _ _ c.loop-i.invariant.1 (ap (λ (x : ℕ). gcd (2 ^ 64 + c.args.p) (bit_xor x 2)) (sym z) ∙ c.if-not-apart-from-x.ensures.0 refl),
+  below_more _ _ c.loop-i.invariant.1 (ap (λ (x : ℕ). gcd (2 ^ 64 + c.args.p) (bit_xor x 2)) (sym z) ∙ c.if-not-apart_from_x.ensures.0 refl),
 )
   where
     z : c.multiply-y.result ≡ frobenius (2 ^ 64 + c.args.p) (suc c.loop-i.i) 2

@@ -18,8 +18,8 @@ returns-then-u-eq1 c = (λ e. ap (gcd (2 ^ 64 + c.args.w)) c.if-u-eq1.true ∙ g
 two : (u : ℕ) → (u ≡ 0 → ⊥) → (u ≡ 1 → ⊥) → 2 ≤ u
 two u f g = omega arith
 
-pub overflow-shl-u : goal.overflow-shl-u
-overflow-shl-u c = first_shift 64 c.args.u (two c.args.u c.if-u-eq0.false c.if-u-eq1.false) c.ranges.u.fits
+pub overflow_shl-u : goal.overflow_shl-u
+overflow_shl-u c = first_shift 64 c.args.u (two c.args.u c.if-u-eq0.false c.if-u-eq1.false) c.ranges.u.fits
 
 pub loop-b-init : goal.loop-b-init
 loop-b-init c =

@@ -27,7 +27,7 @@ turn w s t x y d hx hw e f =
     rw (e, f) (times_turn (2 ^ 64 + w) s x y (word_pos 64 w) (rw (word_degree 64 w hw) hx))
 
 pub loop-y-preserved : goal.loop-y-preserved
-loop-y-preserved c = (turned ∙ c.loop-y.invariant.0, c.double-x.type-inv)
+loop-y-preserved c = (turned ∙ c.loop-y.invariant.0, c.double-x.type_inv)
   where
     sum : c.if-y-eq1.sum ≡ bit_xor c.loop-y.sum (c.loop-y.y % 2 * c.loop-y.x)
     sum = elim c.if-y-eq1.branch [

@@ -10,7 +10,7 @@ pub loop-b-preserved : goal.loop-b-preserved
 loop-b-preserved c =
     let p = c.args.taps in
     let b = get_or c.args.part.now c.loop-b.b-index 0 in
-    ap₂ (λ (x y : ℕ). toeplitz_state p x (bit_xor c.loop-b.sum y)) c.run-byte-next.ensures.after c.run-byte-next.ensures.chosen
+    ap₂ (λ (x y : ℕ). toeplitz_state p x (bit_xor c.loop-b.sum y)) c.run_byte-next.ensures.after c.run_byte-next.ensures.chosen
     ∙ ap (λ t. toeplitz_next t b) c.loop-b.invariant
     ∙ sym (absorbed_more toeplitz_family (toeplitz_state p c.args.register c.args.total) c.args.part.now c.loop-b.b-index c.loop-b-test.true)
 

@@ -15,4 +15,4 @@ read_pair b x y u v h e f =
 pub returns : goal.returns
 returns c =
     read_pair _ _ _ _ _ (subst (λ (n : ℕ). eqb n 16 ≡ true) (sym c.if-bytes-ne16.false) refl)
-    (read_is _ _ _ c.in-ok-first.ensures) (read_is _ _ _ c.in-ok-second.ensures ∙ ap word (take_rest c.args.bytes.now 8))
+    (read_is _ _ _ c.in_ok-first.ensures) (read_is _ _ _ c.in_ok-second.ensures ∙ ap word (take_rest c.args.bytes.now 8))

@@ -26,8 +26,8 @@ returns g c =
     let cut : take n c.decode-n.new.bytes ≡ take 41 d = ap (take n) c.decode-n.ensures.writes ∙ written d _ n c.decode-n.ensures.count in
     let long = long_name M v c.args.number d c.args.out.now in
     record {
-      answers = c.apply-into.ensures.answers ∙ ap (λ t. answer M v (zone c.args.number t)) cut ∙ long.0;
-      leaves = c.apply-into.ensures.leaves ∙ ap (λ t. after M v (zone c.args.number t)) cut ∙ long.1;
-      writes = c.apply-into.ensures.writes ∙ ap (λ t. output_after M v (zone c.args.number t) c.args.out.now) cut ∙ long.2;
-      keeps = c.apply-into.ensures.keeps;
+      answers = c.apply_into.ensures.answers ∙ ap (λ t. answer M v (zone c.args.number t)) cut ∙ long.0;
+      leaves = c.apply_into.ensures.leaves ∙ ap (λ t. after M v (zone c.args.number t)) cut ∙ long.1;
+      writes = c.apply_into.ensures.writes ∙ ap (λ t. output_after M v (zone c.args.number t) c.args.out.now) cut ∙ long.2;
+      keeps = c.apply_into.ensures.keeps;
     }

@@ -30,7 +30,7 @@ returns g c =
     let M = g.F.Family.meaning in
     let buffer = c.args.buffer.now in
     let calls = c.args.calls.now in
-    let opens = c.in-ok-register.ensures.opens in
+    let opens = c.in_ok-register.ensures.opens in
     let all = take_all c.loop-i.i calls c.loop-i-test.false in
     let end = c.loop-i.invariant.0 (key_of M buffer) (pad_of M buffer) (opened_is M buffer _ opens) in
     record {

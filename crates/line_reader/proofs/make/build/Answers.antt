@@ -17,19 +17,19 @@ use Rattle.line_reader.proofs.make.build.Goals.{then-at-out-via-then-at-out, the
 abbrev unmade_in : ℕ → ℕ → ℕ → ℕ → Making
 unmade_in number line column room = unmade room number line column
 
-pub returns-in-err-send-lines : goal.returns-in-err-send-lines
-returns-in-err-send-lines g c =
+pub returns-in_err-send_lines : goal.returns-in_err-send_lines
+returns-in_err-send_lines g c =
     let M = g.F.Family.meaning in
     let buffer = c.args.buffer.now in
     let text = c.args.text.now in
     let room = length c.args.out.now in
-    let o = c.in-ok-register.ensures.opens in
-    let s = c.in-err-send-lines.ensures.sends (key_of M buffer) (pad_of M buffer) (opened_is M buffer _ o) c.requires in
-    let kept : length c.send-lines.new.out ≡ room = omega arith in
-    let p = err_from_is_err_and c.from-residual-in-err-send-lines.result c.from-residual-in-err-send-lines.ensures.1 in
+    let o = c.in_ok-register.ensures.opens in
+    let s = c.in_err-send_lines.ensures.sends (key_of M buffer) (pad_of M buffer) (opened_is M buffer _ o) c.requires in
+    let kept : length c.send_lines.new.out ≡ room = omega arith in
+    let p = err_from_is_err_and c.from_residual-in_err-send_lines.result c.from_residual-in_err-send_lines.ensures.1 in
     record {
       makes =
-          ap (λ (r : Result ℕ MakeFault). wiped r c.send-lines.new.out) (p.1 ∙ ap Err p.2)
+          ap (λ (r : Result ℕ MakeFault). wiped r c.send_lines.new.out) (p.1 ∙ ap Err p.2)
           ∙ ap (unmade_in _ _ _) kept
           ∙ sym (opened_made M buffer text room _ _ o s);
       cleared = c.open.ensures.wiped;
@@ -42,9 +42,9 @@ returns-then-at-out g c =
     let text = c.args.text.now in
     let room = length c.args.out.now in
     let at = c.len-at.result in
-    let o = c.in-ok-register.ensures.opens in
-    let s = c.in-ok-send-lines.ensures.sends (key_of M buffer) (pad_of M buffer) (opened_is M buffer _ o) c.requires in
-    let kept : length c.send-lines.new.out ≡ room = omega arith in
+    let o = c.in_ok-register.ensures.opens in
+    let s = c.in_ok-send_lines.ensures.sends (key_of M buffer) (pad_of M buffer) (opened_is M buffer _ o) c.requires in
+    let kept : length c.send_lines.new.out ≡ room = omega arith in
     let bytes : at ≡ length (message s.0) = c.len-at.ensures ∙ ap (λ (u : View M). u.known.bytes) s.2 in
     let full : room < at + 12 =
     elim c.then-at-out.branch [
@@ -65,21 +65,21 @@ returns g c =
     let text = c.args.text.now in
     let room = length c.args.out.now in
     let at = c.len-at.result in
-    let o = c.in-ok-register.ensures.opens in
-    let s = c.in-ok-send-lines.ensures.sends (key_of M buffer) (pad_of M buffer) (opened_is M buffer _ o) c.requires in
-    let kept : length c.send-lines.new.out ≡ room = omega arith in
+    let o = c.in_ok-register.ensures.opens in
+    let s = c.in_ok-send_lines.ensures.sends (key_of M buffer) (pad_of M buffer) (opened_is M buffer _ o) c.requires in
+    let kept : length c.send_lines.new.out ≡ room = omega arith in
     let bytes : at ≡ length (message s.0) = c.len-at.ensures ∙ ap (λ (u : View M). u.known.bytes) s.2 in
-    let b = c.to-be-bytes.result in
+    let b = c.to_be_bytes.result in
     let f : List ℕ = 0x53 ∷ 0 ∷ 9 ∷ c.code.result ∷ get_or b 0 0 ∷ get_or b 1 0 ∷ get_or b 2 0 ∷ get_or b 3 0 ∷ get_or b 4 0 ∷ get_or b 5 0 ∷ get_or b 6 0 ∷ get_or b 7 0 ∷ [] in
     let sealing : c.close.result ≡ sealed M (key_of M buffer) (pad_of M buffer) s.0 = c.close.ensures ∙ ap (seal M) s.2 in
     let field : f ≡ bytes_of (seal_field M.code (eight (sealed M (key_of M buffer) (pad_of M buffer) s.0))) =
-    rw (c.to-be-bytes.ensures, c.code.ensures, sealing) in
-    let putting : c.put-bytes.new.out ≡ put c.send-lines.new.out (length (message s.0)) (bytes_of (seal_field M.code (eight (sealed M (key_of M buffer) (pad_of M buffer) s.0)))) =
-    c.put-bytes.ensures ∙ ap₂ (λ (n : ℕ) (x : List ℕ). put c.send-lines.new.out n x) bytes field in
+    rw (c.to_be_bytes.ensures, c.code.ensures, sealing) in
+    let putting : c.put_bytes.new.out ≡ put c.send_lines.new.out (length (message s.0)) (bytes_of (seal_field M.code (eight (sealed M (key_of M buffer) (pad_of M buffer) s.0)))) =
+    c.put_bytes.ensures ∙ ap₂ (λ (n : ℕ) (x : List ℕ). put c.send_lines.new.out n x) bytes field in
     record {
       makes =
-          ap (λ (n : ℕ). wiped (Ok (n + 12)) c.put-bytes.new.out) bytes
-          ∙ making_fits M (key_of M buffer) (pad_of M buffer) room s.0 c.send-lines.new.out _ s.3
+          ap (λ (n : ℕ). wiped (Ok (n + 12)) c.put_bytes.new.out) bytes
+          ∙ making_fits M (key_of M buffer) (pad_of M buffer) room s.0 c.send_lines.new.out _ s.3
           (omega (arith, bytes, kept, c.if-at-out.false, c.if-out-at-lt12.false)) putting
           ∙ sym (opened_made M buffer text room _ _ o s.1);
       cleared = c.open.ensures.wiped;

@@ -3,7 +3,7 @@ use Rattle.line_reader.proofs.make.make.Goals as goal
 
 pub returns : goal.returns
 returns g c = record {
-  makes = c.image-or-zeros.ensures.makes;
-  cleared = c.image-or-zeros.ensures.cleared;
+  makes = c.image_or_zeros.ensures.makes;
+  cleared = c.image_or_zeros.ensures.cleared;
   texts = texts_pass g.F.Family.meaning g.met.F.Family.lawful;
 }

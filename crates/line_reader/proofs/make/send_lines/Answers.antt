@@ -17,8 +17,8 @@ returns-in-Err g c = record {
       let M = g.F.Family.meaning in
       let text = c.args.text.now in
       let at = c.loop-at.at in
-      let end = c.line-end-end.result in
-      let r = c.line-end-end.ensures in
+      let end = c.line_end-end.result in
+      let r = c.line_end-end.ensures in
       let cut : lines_of (drop at text) ≡ take (end - at) (drop at text) ∷ lines_of (drop (suc end) text) = line_between text at end c.loop-at-test.true r.low r.high r.plain r.stop in
       sending_stops M key pad text (length c.args.out.now) (view M g.F.Family.state c.loop-at.register) c.loop-at.out at end c.loop-at.number
       (c.loop-at.invariant.3 key pad e z) (take (end - at) (drop at text)) cut _ _ c.in-Err.ensures.answers;
@@ -29,8 +29,8 @@ loop-at-preserved g c =
     let M = g.F.Family.meaning in
     let text = c.args.text.now in
     let at = c.loop-at.at in
-    let end = c.line-end-end.result in
-    let r = c.line-end-end.ensures in
+    let end = c.line_end-end.result in
+    let r = c.line_end-end.ensures in
     let next = c.if-end-text.at in
     let cut : lines_of (drop at text) ≡ take (end - at) (drop at text) ∷ lines_of (drop (suc end) text) = line_between text at end c.loop-at-test.true r.low r.high r.plain r.stop in
     let p : (next ≤ length text) × (at < next) × (drop next text ≡ drop (suc end) text) =
@@ -38,7 +38,7 @@ loop-at-preserved g c =
       | then-end-text w ↦ (omega (arith, w.at-is), omega (arith, w.at-is, r.low), ap (λ q. drop q text) (w.at-is ∙ add-one end))
       | else-end-text w ↦ (omega (arith, w.at-is), omega (arith, w.at-is, c.loop-at-test.true), ap (λ q. drop q text) w.at-is ∙ drop_end text end (omega arith))
     ] in
-    let sent = c.in-default.ensures in (
+    let sent = c.in_default.ensures in (
       p.0,
       omega (arith, p.1, c.loop-at.invariant.1),
       omega (arith, c.loop-at.invariant.2),

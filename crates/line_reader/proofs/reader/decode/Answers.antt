@@ -19,14 +19,14 @@ returns-after-loop-n c =
     let h = holds_done c.loop-n.invariant (inl c.loop-n-test.false) in
     record { count = h.0; writes = h.1; exact = name_decoded }
 
-pub returns-in-default-next : goal.returns-in-default-next
-returns-in-default-next c =
-    let none = ap (λ s. s.0) (character_then c.loop-n.cursor.rest.now ∙ ap carry (c.in-Ok.ensures ∙ ap (λ o. (c.character.new.self.rest.now, Ok o)) c.in-default-next.is)) in
+pub returns-in_default-next : goal.returns-in_default-next
+returns-in_default-next c =
+    let none = ap (λ s. s.0) (character_then c.loop-n.cursor.rest.now ∙ ap carry (c.in-Ok.ensures ∙ ap (λ o. (c.character.new.self.rest.now, Ok o)) c.in_default-next.is)) in
     let h = holds_done c.loop-n.invariant (inr none) in
     record { count = h.0; writes = h.1; exact = name_decoded }
 
-pub returns-in-default : goal.returns-in-default
-returns-in-default c =
-    let none = ap (λ s. s.0) (character_then c.loop-n.cursor.rest.now ∙ ap carry c.in-default.ensures) in
+pub returns-in_default : goal.returns-in_default
+returns-in_default c =
+    let none = ap (λ s. s.0) (character_then c.loop-n.cursor.rest.now ∙ ap carry c.in_default.ensures) in
     let h = holds_done c.loop-n.invariant (inr none) in
     record { count = h.0; writes = h.1; exact = name_decoded }

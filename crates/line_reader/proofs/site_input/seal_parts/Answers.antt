@@ -11,7 +11,7 @@ returns c =
     let input = c.args.input.now in
     let code = c.in-Some.code in
     let rest : take (length input - 1) (drop 1 input) ≡ drop 1 input = between_to_end input 1 (length input) (omega arith) in
-    let bytes = All-drop (λ (b : ℕ). b < 256) 1 input c.code-of.ensures.bytes in
-    c.seal-by-code.ensures (subst Bytes (sym rest) bytes)
+    let bytes = All-drop (λ (b : ℕ). b < 256) 1 input c.code_of.ensures.bytes in
+    c.seal_by_code.ensures (subst Bytes (sym rest) bytes)
     ∙ ap (seal_by (scheme_by code)) rest
     ∙ seal_within input (omega (arith, c.if-input-gt-LIMIT.false)) (Some code) c.in-Some.ensures.code

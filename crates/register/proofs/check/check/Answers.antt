@@ -7,19 +7,19 @@ use Rattle.register.proofs.Checked.{opened_is, check_says, check_faults}
 use Rattle.register.proofs.Passing.{verdict_passes}
 use Rattle.register.proofs.check.check.Goals as goal
 
-pub returns-in-err-seal : goal.returns-in-err-seal
-returns-in-err-seal g c =
+pub returns-in_err-seal : goal.returns-in_err-seal
+returns-in_err-seal g c =
     let M = g.F.Family.meaning in
     let buffer = c.args.buffer.now in
     let image = c.args.image.now in
     let o = c.in-Ok.ensures.opens in
-    let p = err_from_is_err_and c.from-residual.result c.from-residual.ensures.1 in
-    let a : verdict_of c.from-residual.result ≡ checked M buffer image =
+    let p = err_from_is_err_and c.from_residual.result c.from_residual.ensures.1 in
+    let a : verdict_of c.from_residual.result ≡ checked M buffer image =
     rw (p.1, p.2)
-    (check_faults M buffer image _ o _ _ (c.in-err-seal.ensures.answers (key_of M buffer) (pad_of M buffer) (opened_is M buffer _ o))) in
+    (check_faults M buffer image _ o _ _ (c.in_err-seal.ensures.answers (key_of M buffer) (pad_of M buffer) (opened_is M buffer _ o))) in
     record {
       answers = a;
-      passes = verdict_passes M buffer image (typed_bytes image c.type-inv.image) _ a;
+      passes = verdict_passes M buffer image (typed_bytes image c.type_inv.image) _ a;
       wiped = c.open.ensures.wiped;
     }
 
@@ -30,10 +30,10 @@ returns g c =
     let image = c.args.image.now in
     let o = c.in-Ok.ensures.opens in
     let a : says c.compare.result ≡ checked M buffer image =
-    ap says (c.compare.ensures ∙ ap (λ (s : ℕ). cond (eqb c.in-ok-seal.seal s) 1 0) c.close.ensures)
-    ∙ check_says M buffer image _ o _ _ (c.in-ok-seal.ensures.answers (key_of M buffer) (pad_of M buffer) (opened_is M buffer _ o)) in
+    ap says (c.compare.ensures ∙ ap (λ (s : ℕ). cond (eqb c.in_ok-seal.seal s) 1 0) c.close.ensures)
+    ∙ check_says M buffer image _ o _ _ (c.in_ok-seal.ensures.answers (key_of M buffer) (pad_of M buffer) (opened_is M buffer _ o)) in
     record {
       answers = a;
-      passes = verdict_passes M buffer image (typed_bytes image c.type-inv.image) _ a;
+      passes = verdict_passes M buffer image (typed_bytes image c.type_inv.image) _ a;
       wiped = c.open.ensures.wiped;
     }

@@ -10,8 +10,8 @@ loop-field-init g c = (
   λ key pad e. rw c.new-reader.ensures.start (walked_start g.F.Family.meaning key pad c.args.image.now _ e),
 )
 
-pub overflow-add-stop : goal.overflow-add-stop
-overflow-add-stop g c =
+pub overflow_add-stop : goal.overflow_add-stop
+overflow_add-stop g c =
     let image : List ℕ = c.args.image.now in
     let at : ℕ = c.loop-field.reader.at in
     let f = c.in-Some.field in
@@ -19,8 +19,8 @@ overflow-add-stop g c =
     let within : f.place + f.length ≤ length image = next_within image at c.loop-field.invariant.1 f e in
     search rules
 
-pub slice-bounds-value-end : goal.slice-bounds-value-end
-slice-bounds-value-end g c =
+pub slice_bounds-value-end : goal.slice_bounds-value-end
+slice_bounds-value-end g c =
     let image : List ℕ = c.args.image.now in
     let at : ℕ = c.loop-field.reader.at in
     let f = c.in-Some.field in
@@ -28,8 +28,8 @@ slice-bounds-value-end g c =
     let within : f.place + f.length ≤ length image = next_within image at c.loop-field.invariant.1 f e in
     search rules
 
-pub returns-in-default-record-in : goal.returns-in-default-record-in
-returns-in-default-record-in g c = record {
+pub returns-in_default-record_in : goal.returns-in_default-record_in
+returns-in_default-record_in g c = record {
   answers = λ key pad s.
       let M = g.F.Family.meaning in
       let image : List ℕ = c.args.image.now in
@@ -39,7 +39,7 @@ returns-in-default-record-in g c = record {
       let v = view M g.F.Family.state c.loop-field.register in
       let start : f.place - 3 ≡ at = omega (arith, next_place image at c.loop-field.invariant.1 f e) in
       rw (c.at_seal.ensures, c.seal_in.ensures, c.code.ensures, start, add_sub f.place f.length)
-      (walk_seal image at c.loop-field.invariant.1 f e M key pad v (c.loop-field.invariant.2 key pad s) (rw (add_sub f.place f.length) at c.in-default-record-in.ensures));
+      (walk_seal image at c.loop-field.invariant.1 f e M key pad v (c.loop-field.invariant.2 key pad s) (rw (add_sub f.place f.length) at c.in_default-record_in.ensures));
 }
 
 pub returns-in-Err : goal.returns-in-Err
@@ -52,9 +52,9 @@ returns-in-Err g c = record {
       let e = found_at image _ at (Some f) c.loop-field.invariant.0 c.in-Some.ensures.finds in
       let v = view M g.F.Family.state c.loop-field.register in
       let start : f.place - 3 ≡ at = omega (arith, next_place image at c.loop-field.invariant.1 f e) in
-      let r = rw (add_sub f.place f.length) at c.in-Some-record-in.ensures in
+      let r = rw (add_sub f.place f.length) at c.in-Some-record_in.ensures in
       rw start
-      (walk_refused image at c.loop-field.invariant.1 f e M key pad v (c.loop-field.invariant.2 key pad s) r.0 (record_of c.in-Some-record-in.record) r.1 _ c.in-Err.fault
+      (walk_refused image at c.loop-field.invariant.1 f e M key pad v (c.loop-field.invariant.2 key pad s) r.0 (record_of c.in-Some-record_in.record) r.1 _ c.in-Err.fault
       c.in-Err.ensures.answers);
 }
 
@@ -75,13 +75,13 @@ loop-field-preserved g c =
     let e = found_at image _ at (Some f) c.loop-field.invariant.0 c.in-Some.ensures.finds in
     let v = view M g.F.Family.state c.loop-field.register in
     let moves : c.next.new.self.at ≡ f.place + f.length = c.in-Some.ensures.moves in
-    let r = rw (add_sub f.place f.length) at c.in-Some-record-in.ensures in (
+    let r = rw (add_sub f.place f.length) at c.in-Some-record_in.ensures in (
       c.next.ensures.holds ∙ c.loop-field.invariant.0,
       omega (arith, moves, next_within image at c.loop-field.invariant.1 f e),
       λ key pad s.
           rw moves
-          (walk_taken image at c.loop-field.invariant.1 f e M key pad v (c.loop-field.invariant.2 key pad s) r.0 (record_of c.in-Some-record-in.record) r.1 _ c.in-default-apply.field-0
-          c.in-default-apply.ensures.answers c.in-default-apply.ensures.leaves),
+          (walk_taken image at c.loop-field.invariant.1 f e M key pad v (c.loop-field.invariant.2 key pad s) r.0 (record_of c.in-Some-record_in.record) r.1 _ c.in_default-apply.field-0
+          c.in_default-apply.ensures.answers c.in_default-apply.ensures.leaves),
     )
 
 pub returns : goal.returns
@@ -89,7 +89,7 @@ returns g c = record {
   answers = λ key pad s.
       let image : List ℕ = c.args.image.now in
       let at : ℕ = c.loop-field.reader.at in
-      let same : c.at.result ≡ at = c.at.ensures ∙ c.in-default.ensures.moves in
+      let same : c.at.result ≡ at = c.at.ensures ∙ c.in_default.ensures.moves in
       rw same
-      (walk_ends g.F.Family.meaning key pad image _ at (c.loop-field.invariant.2 key pad s) (found_at image _ at None c.loop-field.invariant.0 c.in-default.ensures.finds));
+      (walk_ends g.F.Family.meaning key pad image _ at (c.loop-field.invariant.2 key pad s) (found_at image _ at None c.loop-field.invariant.0 c.in_default.ensures.finds));
 }

@@ -11,11 +11,11 @@ returns-then-name-out c =
     let o = c.args.out.now in
     let at = c.args.at in
     let name = c.in-Zone.name.now in
-    let two = c.two-bytes.result in
+    let two = c.two_bytes.result in
     let head : List ℕ = 1 ∷ 0 ∷ (2 + length name) ∷ get_or two 0 0 ∷ get_or two 1 0 ∷ [] in
     let short : length name ≤ 40 = name_short name (rw c.in-Zone.is at c.requires.name) in
-    c.put-bytes-then-name-out.ensures
-    ∙ ap (λ x. put x (at + 5) name) c.put-bytes.ensures
+    c.put_bytes-then-name-out.ensures
+    ∙ ap (λ x. put x (at + 5) name) c.put_bytes.ensures
     ∙ put_twice o at head name (omega arith)
-    ∙ ap (put o at) (zone_head c.in-Zone.number name two short c.two-bytes.ensures)
+    ∙ ap (put o at) (zone_head c.in-Zone.number name two short c.two_bytes.ensures)
     ∙ ap (λ e. put o at (bytes_of (field_of (record_of e)))) (sym c.in-Zone.is)

@@ -11,5 +11,5 @@ returns c =
     let a = c.args.at in
     let n = length b in
     let fits : a + n ≤ length o = omega arith in
-    put_mid-paste a (a + n - a) o c.copy-from-slice.new.self b n c.copy-from-slice.ensures.after (omega arith) refl
+    put_mid-paste a (a + n - a) o c.copy_from_slice.new.self b n c.copy_from_slice.ensures.after (omega arith) refl
     ∙ paste_all o a b n refl ∙ sym (put_fits o a b fits)

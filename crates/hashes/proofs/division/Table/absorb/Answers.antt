@@ -14,12 +14,12 @@ loop-b-preserved c =
     let i = c.loop-b.b-index in
     let b = get_or part i 0 in
     let r = c.loop-b.sum in
-    let entry = table.filled (bit_xor (r / 2 ^ 56) b) (xor_lt 8 (r / 2 ^ 56) b (shr_lt 8 56 c.loop-b.invariant.1) (c.type-inv.part i).fits) in (
+    let entry = table.filled (bit_xor (r / 2 ^ 56) b) (xor_lt 8 (r / 2 ^ 56) b (shr_lt 8 56 c.loop-b.invariant.1) (c.type_inv.part i).fits) in (
       c.step-sum.ensures
           ∙ division_lookup table.p r b _ table.fits entry
           ∙ ap (λ (x : ℕ). division_step table.p x b) c.loop-b.invariant.0
           ∙ sym (fold_more (division_step table.p) c.args.rest part i 0 c.loop-b-test.true),
-      c.step-sum.type-inv,
+      c.step-sum.type_inv,
     )
 
 pub returns : goal.returns
@@ -31,5 +31,5 @@ returns c =
       moves = ap (division_state p) moved ∙ sym (division_absorbed p c.args.rest m);
       hashes = λ e.
           moved ∙ ap (λ (p : ℕ). fold (division_step p) c.args.rest m) (sym e)
-          ∙ division_run c.args.rest m c.ranges.rest.fits (typed_bytes m c.type-inv.part);
+          ∙ division_run c.args.rest m c.ranges.rest.fits (typed_bytes m c.type_inv.part);
     }

@@ -13,11 +13,11 @@ loop-i-preserved c =
     let i = c.loop-i.i in
     let even : c.double-even.result ≡ division 64 p (2 * i) =
     c.double-even.ensures
-    ∙ sym (double_word 63 p (get_or c.loop-i.words i 0) c.ranges.p.fits c.loop-i-test.element-fits.fits)
+    ∙ sym (double_word 63 p (get_or c.loop-i.words i 0) c.ranges.p.fits c.loop-i-test.element_fits.fits)
     ∙ ap (times_mod (2 ^ 64 + p) 2) (doubled_entry (division 64 p) (division_zero 64 p) 256 i c.loop-i.words c.loop-i.invariant)
     ∙ sym (division_double 64 p i) in
     doubled_more (division 64 p) (division_zero 64 p) 256 i c.loop-i.words c.loop-i.invariant c.double-even.result (bit_xor c.double-even.result p)
     (omega arith) even (ap (λ (x : ℕ). bit_xor x p) even ∙ sym (division_odd 64 p i c.ranges.p.fits))
 
-pub invariant-of-result : goal.invariant-of-result
-invariant-of-result c = (c.ranges.p.fits, (λ t h. c.loop-i.invariant.0.0 t (omega arith), tt))
+pub invariant_of-result : goal.invariant_of-result
+invariant_of-result c = record { fits = c.ranges.p.fits; filled = λ t h. c.loop-i.invariant.0.0 t (omega arith) }

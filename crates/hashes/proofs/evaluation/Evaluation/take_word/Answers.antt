@@ -13,8 +13,8 @@ returns c =
     let bytes = c.args.bytes.now in
     let none : s.len ≡ 0 = c.requires.0 in
     let eight : length bytes ≡ 8 = c.requires.1 in
-    let value = bit_xor c.times.result c.from-be-bytes-word.result in
+    let value = bit_xor c.times.result c.from_be_bytes-word.result in
     ap (λ (n : ℕ). evaluation_state a value (take n s.held)) none
-    ∙ ap₂ (λ (x y : ℕ). evaluation_state a (bit_xor x y) []) c.times.ensures (c.from-be-bytes-word.ensures ∙ word8 bytes eight)
+    ∙ ap₂ (λ (x y : ℕ). evaluation_state a (bit_xor x y) []) c.times.ensures (c.from_be_bytes-word.ensures ∙ word8 bytes eight)
     ∙ sym (word_taken a s.value [] bytes (lit< tt) (omega (arith, eight)))
     ∙ ap (λ (n : ℕ). absorbed evaluation_family (evaluation_state a s.value (take n s.held)) bytes) (sym none)

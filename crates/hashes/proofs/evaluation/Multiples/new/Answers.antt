@@ -14,7 +14,7 @@ loop-d-preserved c =
     let f : ℕ → ℕ = λ d. times_mod modulus d a in
     let even : c.double-even.result ≡ times_mod modulus (2 * d) a =
     c.double-even.ensures
-    ∙ sym (double_word 63 0x1B (get_or c.loop-d.words d 0) (omega arith) c.loop-d-test.element-fits.fits)
+    ∙ sym (double_word 63 0x1B (get_or c.loop-d.words d 0) (omega arith) c.loop-d-test.element_fits.fits)
     ∙ ap (times_mod modulus 2) (doubled_entry f (multiple_zero a) 256 d c.loop-d.words c.loop-d.invariant)
     ∙ multiple_even a d in
     doubled_more f (multiple_zero a) 256 d c.loop-d.words c.loop-d.invariant c.double-even.result (bit_xor c.double-even.result a)
@@ -27,9 +27,9 @@ pub loop-i-preserved : goal.loop-i-preserved
 loop-i-preserved c =
     let a = c.args.point in
     let i = c.loop-i.i in
-    filled_more (multiple a) 256 i c.half-byte-up.result c.loop-i.words c.loop-i-test.true
-    (c.half-byte-up.ensures ∙ ap (times_mod modulus 16) (c.loop-i.invariant.0 (i - 16) (omega (arith, c.loop-i.auto.i))) ∙ multiple_row a i c.loop-i.auto.i)
+    filled_more (multiple a) 256 i c.half_byte_up.result c.loop-i.words c.loop-i-test.true
+    (c.half_byte_up.ensures ∙ ap (times_mod modulus 16) (c.loop-i.invariant.0 (i - 16) (omega (arith, c.loop-i.auto.i))) ∙ multiple_row a i c.loop-i.auto.i)
     c.loop-i.invariant
 
-pub invariant-of-result : goal.invariant-of-result
-invariant-of-result c = (λ t h. c.loop-i.invariant.0 t (omega arith), tt)
+pub invariant_of-result : goal.invariant_of-result
+invariant_of-result c = record { filled = λ t h. c.loop-i.invariant.0 t (omega arith) }

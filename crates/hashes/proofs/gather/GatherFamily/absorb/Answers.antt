@@ -15,6 +15,6 @@ returns-else-part-gt64 g c =
     ∙ ap (absorbed M (st s.below)) c.hold.ensures.held
     ∙ absorbed_append M (st s.below) (take s.len s.held) part
     ∙ ap (λ x. absorbed M x part) (elim c.if-part-self.branch [
-      | then-part-self w ↦ let e = w.hand-down.ensures.below in let z = w.hand-down.ensures.empty in cc
+      | then-part-self w ↦ let e = w.hand_down.ensures.below in let z = w.hand_down.ensures.empty in cc
       | else-part-self w ↦ cc
     ])

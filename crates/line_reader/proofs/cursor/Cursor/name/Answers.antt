@@ -5,9 +5,9 @@ use Rattle.line_reader.proofs.cursor.Cursor.name.Goals as goal
 
 pub loop-preserved : goal.loop-preserved
 loop-preserved c =
-    c.loop.invariant ∙ ap (λ s. s.1) (character_then c.loop.self.rest.now ∙ ap carry (c.in-ok-character.ensures ∙ ap (λ o. (c.character.new.self.rest.now, Ok o)) c.in-Some.is))
+    c.loop.invariant ∙ ap (λ s. s.1) (character_then c.loop.self.rest.now ∙ ap carry (c.in_ok-character.ensures ∙ ap (λ o. (c.character.new.self.rest.now, Ok o)) c.in-Some.is))
 
-pub slice-bounds-result-count : goal.slice-bounds-result-count
-slice-bounds-result-count c =
+pub slice_bounds-result-count : goal.slice_bounds-result-count
+slice_bounds-result-count c =
     characters_less c.args.self.now.rest.now c.character.new.self.rest.now (Ok tt)
-    (c.loop.invariant ∙ ap (λ s. s.1) (character_then c.loop.self.rest.now ∙ ap carry (c.in-ok-character.ensures ∙ ap (λ o. (c.character.new.self.rest.now, Ok o)) c.in-default.is)))
+    (c.loop.invariant ∙ ap (λ s. s.1) (character_then c.loop.self.rest.now ∙ ap carry (c.in_ok-character.ensures ∙ ap (λ o. (c.character.new.self.rest.now, Ok o)) c.in_default.is)))

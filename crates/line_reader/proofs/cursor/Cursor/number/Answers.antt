@@ -14,12 +14,12 @@ loop-left-preserved c =
       digit_more c.loop-left.-left c.loop-left.value (first text) c.from.result (omega arith) c.loop-left-test.true c.loop-left.invariant.1 d c.from.ensures,
     )
 
-pub returns-in-default-default : goal.returns-in-default-default
-returns-in-default-default c =
+pub returns-in_default-default : goal.returns-in_default-default
+returns-in_default-default c =
     let text = c.loop-left.self.rest.now in
     let none : digit (first text) ≡ false = ap (λ t. digit (first t)) (nil_from_length text (search rules)) in
     c.loop-left.invariant.0 ∙ digits_stop c.loop-left.-left c.loop-left.value text none
 
-pub returns-in-default-default·2 : goal.returns-in-default-default·2
-returns-in-default-default·2 c =
+pub returns-in_default-default·2 : goal.returns-in_default-default·2
+returns-in_default-default·2 c =
     c.loop-left.invariant.0 ∙ digits_stop c.loop-left.-left c.loop-left.value c.loop-left.self.rest.now (sym c.if-digit.ensures)

@@ -11,7 +11,7 @@ loop-self-preserved c =
     let b = get_or c.loop-self.self.rest.now 0 0 in
     c.loop-self.invariant ∙ (ap past_remark (first_is c.loop-self.self.rest.now b (search rules) refl) ∙ rw (ne_eqb b 10 (search rules)))
 
-pub returns-in-default : goal.returns-in-default
-returns-in-default c =
+pub returns-in_default : goal.returns-in_default
+returns-in_default c =
     let e = nil_from_length c.loop-self.self.rest.now (search rules) in
     c.loop-self.invariant ∙ (ap past_remark e ∙ sym e)

@@ -7,16 +7,16 @@ use Rattle.register.proofs.image.Reader.next.Goals as goal
 rest : (image : List ℕ) (at : ℕ) → first_place (take (length image - at) (drop at image)) at ≡ place_at image at
 rest image at = ap (λ bytes. first_place bytes at) (take_rest image at)
 
-pub returns-in-err-field : goal.returns-in-err-field
-returns-in-err-field c = record {
-  finds = c.from-residual.ensures ∙ c.in-err-field.ensures ∙ rest c.args.self.now.image.now c.args.self.now.at;
-  moves = sym (ap (place_after c.args.self.now.at) c.from-residual.ensures);
+pub returns-in_err-field : goal.returns-in_err-field
+returns-in_err-field c = record {
+  finds = c.from_residual.ensures ∙ c.in_err-field.ensures ∙ rest c.args.self.now.image.now c.args.self.now.at;
+  moves = sym (ap (place_after c.args.self.now.at) c.from_residual.ensures);
   holds = search rules;
 }
 
 pub returns : goal.returns
 returns c = record {
-  finds = c.in-ok-field.ensures ∙ rest c.args.self.now.image.now c.args.self.now.at;
+  finds = c.in_ok-field.ensures ∙ rest c.args.self.now.image.now c.args.self.now.at;
   moves = search rules;
   holds = search rules;
 }
