@@ -31,7 +31,7 @@ pub extern "C" fn waq_irreducible(p: u64) -> u8
 }
 
 fn open_number<F: Family>(key: &[u8]) -> u8
-    ensures { result ≡ refusal_number (opening meaning key.now) }
+    ensures { result ≡ refusal_number (opening F.meaning key.now) }
 {
     match F::open(key) {
         Ok(_) => 0,
@@ -41,7 +41,7 @@ fn open_number<F: Family>(key: &[u8]) -> u8
 
 // The same straight or through the gather.
 fn open_either<F: Family>(gathered: u8, key: &[u8]) -> u8
-    ensures { result ≡ refusal_number (opening meaning key.now) }
+    ensures { result ≡ refusal_number (opening F.meaning key.now) }
 {
     if gathered == 0 {
         open_number::<F>(key)
@@ -65,7 +65,7 @@ pub extern "C" fn waq_open(code: u8, gathered: u8, key: &[u8]) -> u8
 
 // The hash of a message that is handed over in parts, or all at once where the length of a part is 0.
 fn hash_parts<F: Family>(key: &[u8], message: &[u8], part: usize) -> u64
-    ensures { result ≡ hash_or_zero (hashing meaning key.now message.now) }
+    ensures { result ≡ hash_or_zero (hashing F.meaning key.now message.now) }
 {
     let Ok(mut hash) = F::open(key) else {
         return 0;
@@ -81,7 +81,7 @@ fn hash_parts<F: Family>(key: &[u8], message: &[u8], part: usize) -> u64
 }
 
 fn hash_either<F: Family>(gathered: u8, key: &[u8], message: &[u8], part: usize) -> u64
-    ensures { result ≡ hash_or_zero (hashing meaning key.now message.now) }
+    ensures { result ≡ hash_or_zero (hashing F.meaning key.now message.now) }
 {
     if gathered == 0 {
         hash_parts::<F>(key, message, part)
@@ -169,7 +169,7 @@ pub extern "C" fn waq_make(code: u8, text: &[u8], buffer: &mut [u8], out: &mut [
 
 // The check of an image, its verdict or its refusal as one number.
 fn check_bits<F: Family>(buffer: &mut [u8], image: &[u8]) -> u64
-    ensures answers { result ≡ packed_verdict (checked meaning buffer.old image.now) }
+    ensures answers { result ≡ packed_verdict (checked F.meaning buffer.old image.now) }
     ensures cleared { buffer.new ≡ replicate (length buffer.old) 0 }
 {
     match check::<F>(buffer, image) {

@@ -35,9 +35,9 @@ fn named_zone<F: Family>(
     name: &[u8],
     out: &mut [u8],
 ) -> Result<usize, RecordFault>
-    ensures answers { result ≡ answer meaning (view meaning state register.old) (Record.zone number (decoded name.now)) }
-    ensures leaves { view meaning state register.new ≡ after meaning (view meaning state register.old) (Record.zone number (decoded name.now)) }
-    ensures writes { out.new ≡ output_after meaning (view meaning state register.old) (Record.zone number (decoded name.now)) out.old }
+    ensures answers { result ≡ answer F.meaning (view F.meaning F.state register.old) (Record.zone number (decoded name.now)) }
+    ensures leaves { view F.meaning F.state register.new ≡ after F.meaning (view F.meaning F.state register.old) (Record.zone number (decoded name.now)) }
+    ensures writes { out.new ≡ output_after F.meaning (view F.meaning F.state register.old) (Record.zone number (decoded name.now)) out.old }
     ensures keeps { Keeps result register.old register.new }
 {
     let mut bytes = [0; 41];
@@ -57,9 +57,9 @@ fn make_call<F: Family>(
     read: Line,
     out: &mut [u8],
 ) -> Result<usize, RecordFault>
-    ensures answers { reply_of result ≡ input_reply meaning (view meaning state register.old) (sentence_input (said read.entry)) }
-    ensures leaves { view meaning state register.new ≡ input_after meaning (view meaning state register.old) (sentence_input (said read.entry)) }
-    ensures writes { out.new ≡ input_output meaning (view meaning state register.old) (sentence_input (said read.entry)) out.old }
+    ensures answers { reply_of result ≡ input_reply F.meaning (view F.meaning F.state register.old) (sentence_input (said read.entry)) }
+    ensures leaves { view F.meaning F.state register.new ≡ input_after F.meaning (view F.meaning F.state register.old) (sentence_input (said read.entry)) }
+    ensures writes { out.new ≡ input_output F.meaning (view F.meaning F.state register.old) (sentence_input (said read.entry)) out.old }
     ensures keeps { Keeps result register.old register.new }
 {
     match read {
@@ -78,9 +78,9 @@ pub(crate) fn line_into<F: Family>(
     line: &[u8],
     out: &mut [u8],
 ) -> Result<usize, LineFault>
-    ensures answers { line_reply result ≡ input_reply meaning (view meaning state register.old) (line_input line.now) }
-    ensures leaves { view meaning state register.new ≡ input_after meaning (view meaning state register.old) (line_input line.now) }
-    ensures writes { out.new ≡ input_output meaning (view meaning state register.old) (line_input line.now) out.old }
+    ensures answers { line_reply result ≡ input_reply F.meaning (view F.meaning F.state register.old) (line_input line.now) }
+    ensures leaves { view F.meaning F.state register.new ≡ input_after F.meaning (view F.meaning F.state register.old) (line_input line.now) }
+    ensures writes { out.new ≡ input_output F.meaning (view F.meaning F.state register.old) (line_input line.now) out.old }
     ensures keeps { Keeps result register.old register.new }
 {
     let read = match read_line(line) {
@@ -93,8 +93,8 @@ pub(crate) fn line_into<F: Family>(
 
 // Makes the call that a line spells. The answer is the length of the message after it; a blank line or a comment adds nothing.
 pub fn line<F: Family>(register: &mut Register<F>, line: &[u8]) -> Result<usize, LineFault>
-    ensures answers { line_reply result ≡ input_reply meaning (view meaning state register.old) (line_input line.now) }
-    ensures leaves { view meaning state register.new ≡ input_after meaning (view meaning state register.old) (line_input line.now) }
+    ensures answers { line_reply result ≡ input_reply F.meaning (view F.meaning F.state register.old) (line_input line.now) }
+    ensures leaves { view F.meaning F.state register.new ≡ input_after F.meaning (view F.meaning F.state register.old) (line_input line.now) }
     ensures keeps { Keeps result register.old register.new }
 {
     line_into(register, line, &mut [])

@@ -26,8 +26,8 @@ fn as_line(answer: Result<usize, RecordFault>) -> Result<usize, LineFault>
 
 // Makes a call.
 fn serve<F: Family>(register: &mut Register<F>, call: Call) -> Result<usize, LineFault>
-    ensures answers { line_reply result ≡ input_reply meaning (view meaning state register.old) (call_input call.entry) }
-    ensures leaves { view meaning state register.new ≡ input_after meaning (view meaning state register.old) (call_input call.entry) }
+    ensures answers { line_reply result ≡ input_reply F.meaning (view F.meaning F.state register.old) (call_input call.entry) }
+    ensures leaves { view F.meaning F.state register.new ≡ input_after F.meaning (view F.meaning F.state register.old) (call_input call.entry) }
 {
     match call {
         Call::Line(bytes) => line(register, bytes),
@@ -44,8 +44,8 @@ pub fn seal_calls<F: Family>(
     calls: &[Call],
     answers: &mut [Result<usize, LineFault>],
 ) -> Result<u64, KeyFault>
-    ensures seals { opened (λ s. s) result ≡ sealing meaning buffer.old calls.now }
-    ensures replies { map line_reply answers.new ≡ placed (replies_if (opening meaning buffer.old) calls.now) (map line_reply answers.old) }
+    ensures seals { opened (λ s. s) result ≡ sealing F.meaning buffer.old calls.now }
+    ensures replies { map line_reply answers.new ≡ placed (replies_if (opening F.meaning buffer.old) calls.now) (map line_reply answers.old) }
     ensures wiped { buffer.new ≡ replicate (length buffer.old) 0 }
 {
     let mut register = Register::<F>::open(buffer)?;
@@ -67,11 +67,11 @@ fn seal_both<F: Family>(
     calls2: &[Call],
     answers2: &mut [Result<usize, LineFault>],
 ) -> (Result<u64, KeyFault>, Result<u64, KeyFault>)
-    ensures seals { opened (λ s. s) result.0 ≡ sealing meaning buffer.old calls.now }
-    ensures replies { map line_reply answers.new ≡ placed (replies_if (opening meaning buffer.old) calls.now) (map line_reply answers.old) }
+    ensures seals { opened (λ s. s) result.0 ≡ sealing F.meaning buffer.old calls.now }
+    ensures replies { map line_reply answers.new ≡ placed (replies_if (opening F.meaning buffer.old) calls.now) (map line_reply answers.old) }
     ensures wiped { buffer.new ≡ replicate (length buffer.old) 0 }
-    ensures seals2 { opened (λ s. s) result.1 ≡ sealing meaning buffer2.old calls2.now }
-    ensures replies2 { map line_reply answers2.new ≡ placed (replies_if (opening meaning buffer2.old) calls2.now) (map line_reply answers2.old) }
+    ensures seals2 { opened (λ s. s) result.1 ≡ sealing F.meaning buffer2.old calls2.now }
+    ensures replies2 { map line_reply answers2.new ≡ placed (replies_if (opening F.meaning buffer2.old) calls2.now) (map line_reply answers2.old) }
     ensures wiped2 { buffer2.new ≡ replicate (length buffer2.old) 0 }
 {
     let first = seal_calls::<F>(buffer, calls, answers);
@@ -88,14 +88,14 @@ pub fn handover<F: Family>(
     calls2: &[Call],
     answers2: &mut [Result<usize, LineFault>],
 ) -> (Result<u64, KeyFault>, Result<u64, KeyFault>)
-    ensures seals { opened (λ s. s) result.0 ≡ sealing meaning buffer.old calls.now }
-    ensures replies { map line_reply answers.new ≡ placed (replies_if (opening meaning buffer.old) calls.now) (map line_reply answers.old) }
+    ensures seals { opened (λ s. s) result.0 ≡ sealing F.meaning buffer.old calls.now }
+    ensures replies { map line_reply answers.new ≡ placed (replies_if (opening F.meaning buffer.old) calls.now) (map line_reply answers.old) }
     ensures wiped { buffer.new ≡ replicate (length buffer.old) 0 }
-    ensures seals2 { opened (λ s. s) result.1 ≡ sealing meaning buffer2.old calls2.now }
-    ensures replies2 { map line_reply answers2.new ≡ placed (replies_if (opening meaning buffer2.old) calls2.now) (map line_reply answers2.old) }
+    ensures seals2 { opened (λ s. s) result.1 ≡ sealing F.meaning buffer2.old calls2.now }
+    ensures replies2 { map line_reply answers2.new ≡ placed (replies_if (opening F.meaning buffer2.old) calls2.now) (map line_reply answers2.old) }
     ensures wiped2 { buffer2.new ≡ replicate (length buffer2.old) 0 }
-    ensures promise { HandoverPromise meaning }
-    ensures messages { MessagesPromise meaning }
+    ensures promise { HandoverPromise F.meaning }
+    ensures messages { MessagesPromise F.meaning }
 {
     seal_both::<F>(buffer, calls, answers, buffer2, calls2, answers2)
 }

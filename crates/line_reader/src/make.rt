@@ -32,7 +32,7 @@ pub(crate) fn send_lines<F: Family>(
     text: &[u8],
     out: &mut [u8],
 ) -> Result<(), MakeFault>
-    ensures { SendsLines meaning (view meaning state register.old) text.now result (view meaning state register.new) out.old out.new }
+    ensures { SendsLines F.meaning (view F.meaning F.state register.old) text.now result (view F.meaning F.state register.new) out.old out.new }
 {
     let mut at = 0;
     let mut number = 1;
@@ -50,7 +50,7 @@ pub(crate) fn send_lines<F: Family>(
 // Writes the image of a text into an output of zeros. After a refusal the output may hold a part of the message.
 fn build<F: Family>(text: &[u8], buffer: &mut [u8], out: &mut [u8]) -> Result<usize, MakeFault>
     requires { out.old ≡ replicate (length out.old) 0 }
-    ensures makes { wiped result out.new ≡ made meaning buffer.old text.now (length out.old) }
+    ensures makes { wiped result out.new ≡ made F.meaning buffer.old text.now (length out.old) }
     ensures cleared { buffer.new ≡ replicate (length buffer.old) 0 }
 {
     let mut register = Register::<F>::open(buffer)?;
@@ -70,7 +70,7 @@ fn image_or_zeros<F: Family>(
     buffer: &mut [u8],
     out: &mut [u8],
 ) -> Result<usize, (u8, (usize, usize))>
-    ensures makes { (result, out.new) ≡ made meaning buffer.old text.now (length out.old) }
+    ensures makes { (result, out.new) ≡ made F.meaning buffer.old text.now (length out.old) }
     ensures cleared { buffer.new ≡ replicate (length buffer.old) 0 }
 {
     out.fill(0);
@@ -90,9 +90,9 @@ pub fn make<F: Family>(
     buffer: &mut [u8],
     out: &mut [u8],
 ) -> Result<usize, (u8, (usize, usize))>
-    ensures makes { (result, out.new) ≡ made meaning buffer.old text.now (length out.old) }
+    ensures makes { (result, out.new) ≡ made F.meaning buffer.old text.now (length out.old) }
     ensures cleared { buffer.new ≡ replicate (length buffer.old) 0 }
-    ensures texts { TextsPass meaning }
+    ensures texts { TextsPass F.meaning }
 {
     image_or_zeros::<F>(text, buffer, out)
 }

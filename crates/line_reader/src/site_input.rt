@@ -20,7 +20,7 @@ const LIMIT: usize = 65_536;
 
 // Seals a text that stands behind its key buffer: the length of its image, and the seal.
 fn seal_text<F: Family>(rest: &mut [u8]) -> Result<(usize, u64), MakeFault>
-    ensures { text_answer result ≡ seal_by_scheme (scheme_of meaning) rest.old }
+    ensures { text_answer result ≡ seal_by_scheme (scheme_of F.meaning) rest.old }
 {
     let end = F::key_len() + 8;
     if rest.len() < end {

@@ -36,7 +36,7 @@ fn read_records<F: Family>(
     register: &mut Register<F>,
     image: &[u8],
 ) -> Result<u64, (ImageFault, usize)>
-    ensures { Walks meaning (view meaning state register.old) image.now result (view meaning state register.new) }
+    ensures { Walks F.meaning (view F.meaning F.state register.old) image.now result (view F.meaning F.state register.new) }
 {
     let mut reader = Reader::new(image);
     while let Some(field) = reader.next() {
@@ -68,8 +68,8 @@ fn compare(a: u64, b: u64) -> u8
 
 // Whether an image is sealed by a key buffer, which it leaves zero: 1 or 0, or a fault and the offset of the faulty field.
 pub fn check<F: Family>(buffer: &mut [u8], image: &[u8]) -> Result<u8, (ImageFault, usize)>
-    ensures answers { verdict_of result ≡ checked meaning buffer.old image.now }
-    ensures passes { (verdict_of result ≡ says 1) ↔ Passes meaning buffer.old image.now }
+    ensures answers { verdict_of result ≡ checked F.meaning buffer.old image.now }
+    ensures passes { (verdict_of result ≡ says 1) ↔ Passes F.meaning buffer.old image.now }
     ensures wiped { buffer.new ≡ replicate (length buffer.old) 0 }
 {
     let mut register = match Register::<F>::open(buffer) {

@@ -5,15 +5,15 @@ use hashes::family::Family;
 
 // The functions of the definitions give what their relations say, and each relation has one outcome.
 pub fn register_facts<F: Family>()
-    ensures { RegisterFacts meaning }
+    ensures { RegisterFacts F.meaning }
 {}
 
 // How few keys make the seals of different records differ by a word, or pass two different images.
 pub fn seal_bounds<F: Family>()
-    ensures { SealBounds meaning }
+    ensures { SealBounds F.meaning }
 {}
 
 // How few keys pass two images with different messages, each with its own pad.
 pub fn message_bounds<F: Family>()
-    ensures { MessageBounds meaning }
+    ensures { MessageBounds F.meaning }
 {}

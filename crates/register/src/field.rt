@@ -22,7 +22,7 @@ fn two_bytes(n: u32) -> [u8; 2]
 pub(crate) fn send<F: Family>(family: &mut F, record: SiteRecord)
     requires range { range_fault (record_of «record») ≡ false }
     requires name { name_fault (record_of «record») ≡ false }
-    ensures { state family.new ≡ absorbed meaning (state family.old) (bytes_of (field_of (record_of «record».entry))) }
+    ensures { F.state family.new ≡ absorbed F.meaning (F.state family.old) (bytes_of (field_of (record_of «record».entry))) }
 {
     match record {
         SiteRecord::Zone { number, name } => {

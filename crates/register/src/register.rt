@@ -38,7 +38,7 @@ impl Drop for KeyGuard<'_> {
 
 // Opens a register by the bytes of a key buffer.
 fn from_key<F: Family>(buffer: &[u8]) -> Result<Register<F>, KeyFault>
-    ensures { opened (view meaning state) result ≡ opening meaning buffer.now }
+    ensures { opened (view F.meaning F.state) result ≡ opening F.meaning buffer.now }
 {
     let n = F::key_len();
     if buffer.len() < n {
@@ -58,7 +58,7 @@ fn from_key<F: Family>(buffer: &[u8]) -> Result<Register<F>, KeyFault>
 impl<F: Family> Register<F> {
     // Opens a register by a key buffer, the key and then eight pad bytes, and leaves only zeros in it.
     pub fn open(buffer: &mut [u8]) -> Result<Register<F>, KeyFault>
-        ensures opens { opened (view meaning state) result ≡ opening meaning buffer.old }
+        ensures opens { opened (view F.meaning F.state) result ≡ opening F.meaning buffer.old }
         ensures wiped { buffer.new ≡ replicate (length buffer.old) 0 }
     {
         let guard = KeyGuard { bytes: buffer };
@@ -67,16 +67,16 @@ impl<F: Family> Register<F> {
 
     // The length of the message.
     pub fn len(&self) -> usize
-        ensures { result ≡ (view meaning state self.now).known.bytes }
+        ensures { result ≡ (view F.meaning F.state self.now).known.bytes }
     {
         self.book.len()
     }
 
     // Takes a record and writes its field into an output, after the message, where there is room. The answer is the length of the message after it.
     pub fn apply_into(&mut self, record: SiteRecord, out: &mut [u8]) -> Result<usize, RecordFault>
-        ensures answers { result ≡ answer meaning (view meaning state self.old) (record_of «record».entry) }
-        ensures leaves { view meaning state self.new ≡ after meaning (view meaning state self.old) (record_of «record».entry) }
-        ensures writes { out.new ≡ output_after meaning (view meaning state self.old) (record_of «record».entry) out.old }
+        ensures answers { result ≡ answer F.meaning (view F.meaning F.state self.old) (record_of «record».entry) }
+        ensures leaves { view F.meaning F.state self.new ≡ after F.meaning (view F.meaning F.state self.old) (record_of «record».entry) }
+        ensures writes { out.new ≡ output_after F.meaning (view F.meaning F.state self.old) (record_of «record».entry) out.old }
         ensures keeps { Keeps result self.old self.new }
     {
         self.book.admit(record)?;
@@ -88,8 +88,8 @@ impl<F: Family> Register<F> {
 
     // Takes a record.
     pub fn apply(&mut self, record: SiteRecord) -> Result<usize, RecordFault>
-        ensures answers { result ≡ answer meaning (view meaning state self.old) (record_of «record».entry) }
-        ensures leaves { view meaning state self.new ≡ after meaning (view meaning state self.old) (record_of «record».entry) }
+        ensures answers { result ≡ answer F.meaning (view F.meaning F.state self.old) (record_of «record».entry) }
+        ensures leaves { view F.meaning F.state self.new ≡ after F.meaning (view F.meaning F.state self.old) (record_of «record».entry) }
         ensures keeps { Keeps result self.old self.new }
     {
         self.apply_into(record, &mut [])
@@ -97,8 +97,8 @@ impl<F: Family> Register<F> {
 
     // Declares a zone.
     pub fn zone(&mut self, number: u32, name: &[u8]) -> Result<usize, RecordFault>
-        ensures answers { result ≡ answer meaning (view meaning state self.old) (Record.zone number name.now) }
-        ensures leaves { view meaning state self.new ≡ after meaning (view meaning state self.old) (Record.zone number name.now) }
+        ensures answers { result ≡ answer F.meaning (view F.meaning F.state self.old) (Record.zone number name.now) }
+        ensures leaves { view F.meaning F.state self.new ≡ after F.meaning (view F.meaning F.state self.old) (Record.zone number name.now) }
         ensures keeps { Keeps result self.old self.new }
     {
         self.apply(SiteRecord::Zone { number, name })
@@ -106,8 +106,8 @@ impl<F: Family> Register<F> {
 
     // Declares a point.
     pub fn point(&mut self, number: u32, zone: u32, kind: u8) -> Result<usize, RecordFault>
-        ensures answers { result ≡ answer meaning (view meaning state self.old) (Record.point number zone kind) }
-        ensures leaves { view meaning state self.new ≡ after meaning (view meaning state self.old) (Record.point number zone kind) }
+        ensures answers { result ≡ answer F.meaning (view F.meaning F.state self.old) (Record.point number zone kind) }
+        ensures leaves { view F.meaning F.state self.new ≡ after F.meaning (view F.meaning F.state self.old) (Record.point number zone kind) }
         ensures keeps { Keeps result self.old self.new }
     {
         self.apply(point_record(number, zone, kind))
@@ -115,8 +115,8 @@ impl<F: Family> Register<F> {
 
     // Adds a rule: an alarm in the zone drives the point.
     pub fn rule(&mut self, zone: u32, point: u32) -> Result<usize, RecordFault>
-        ensures answers { result ≡ answer meaning (view meaning state self.old) (Record.rule zone point) }
-        ensures leaves { view meaning state self.new ≡ after meaning (view meaning state self.old) (Record.rule zone point) }
+        ensures answers { result ≡ answer F.meaning (view F.meaning F.state self.old) (Record.rule zone point) }
+        ensures leaves { view F.meaning F.state self.new ≡ after F.meaning (view F.meaning F.state self.old) (Record.rule zone point) }
         ensures keeps { Keeps result self.old self.new }
     {
         self.apply(rule_record(zone, point))
@@ -124,7 +124,7 @@ impl<F: Family> Register<F> {
 
     // Ends the register: the hash of the message combined with the pad, bit by bit.
     pub fn close(self) -> u64
-        ensures { result ≡ seal meaning (view meaning state self) }
+        ensures { result ≡ seal F.meaning (view F.meaning F.state self) }
     {
         let Register {
             mut family,
