@@ -42,8 +42,8 @@ characters_read true (e ∷ t) = decide (unescaped e) refl (characters_read fals
   where
     decide : (r : Result ℕ ReadFault) → unescaped e ≡ r → Reads (λ t. (characters false t).1) Named Half t → Reads (λ t. (characters true t).1) (NamedFrom true) (HalfFrom true) (e ∷ t)
     decide (Ok d) q h =
-        pass e (λ s. rw q) (weaken (λ w _ (v, n). (d ∷ v, escape q n)) (λ w (x, v, n, k). (92 ∷ (e ∷ x), d ∷ v, escape q n, ap (λ l. 92 ∷ (e ∷ l)) k)) h)
-    decide (Err f) q h = stay_at e t (Err f) (λ s. rw q) ((34 ∷ [], tt, (34 ∷ [], escape refl none)), λ _. ([], [], none, refl))
+        pass e (λ s. rw (q, characters)) (weaken (λ w _ (v, n). (d ∷ v, escape q n)) (λ w (x, v, n, k). (92 ∷ (e ∷ x), d ∷ v, escape q n, ap (λ l. 92 ∷ (e ∷ l)) k)) h)
+    decide (Err f) q h = stay_at e t (Err f) (λ s. rw (q, characters)) ((34 ∷ [], tt, (34 ∷ [], escape refl none)), λ _. ([], [], none, refl))
 
 -- a name, with the text itself as its value
 abbrev pub Written : List ℕ → List ℕ → Type 0

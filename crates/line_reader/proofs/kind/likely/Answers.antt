@@ -6,5 +6,5 @@ use Rattle.line_reader.proofs.kind.likely.Goals as goal
 pub returns-in_default : goal.returns-in_default
 returns-in_default c = search (rules, get_or_past)
 
-pub returns-in_default·2 : goal.returns-in_default·2
-returns-in_default·2 c = search (rules, get_or_past)
+pub returns-in_default-2 : goal.returns-in_default-2
+returns-in_default-2 c = search (rules, get_or_past)

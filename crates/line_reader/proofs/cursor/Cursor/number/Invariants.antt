@@ -5,4 +5,4 @@ use Rattle.line_reader.proofs.cursor.Cursor.number.Given as goal
 
 abbrev pub invariant-loop-left : goal.invariant-loop-left
 invariant-loop-left l =
-    (read_number l.initial.self.rest.now ≡ read_digits l.-left l.value l.self.rest.now) × (l.value < 10 ^ (5 - l.-left))
+    (read_number l.initial.self.rest.now ≡ read_digits l._left l.value l.self.rest.now) × (l.value < 10 ^ (5 - l._left))
