@@ -1,5 +1,5 @@
 -- Runs of calls: the function and the relation agree, and what holds of every run.
-use Rattle.std.proofs.Common.{◌≡◌, ◌+◌, ◌≤◌, List, [], ◌∷◌, ◌++◌, length, Some, None, Option, sym, refl, ap, ◌∙◌, append_assoc, append-nil, arith}
+use Rattle.std.proofs.Common.{◌≡◌, ◌≤◌, List, [], ◌∷◌, ◌++◌, length, Some, None, Option, sym, refl, ap, ◌∙◌, append_assoc, append-nil, arith}
 use Rattle.std.specs.List.{AllByRecursion as All}
 use Rattle.register.specs.declared.fault.RecordFault.{RecordFault}
 use Rattle.register.specs.Records.{Record, message}

@@ -36,7 +36,7 @@ const DENSE_AND_STATE: [u8; 16] = [
 
 // The hash of a message that comes in two parts.
 fn hash_parts<F: Family>(key: &[u8], first: &[u8], second: &[u8]) -> Result<u64, KeyFault>
-    ensures { opened (λ h. h) result ≡ hashing meaning key.now (first.now ++ second.now) }
+    ensures { opened (λ h. h) result ≡ hashing F.meaning key.now (first.now ++ second.now) }
 {
     let mut running = F::open(key)?;
     running.absorb(first);
@@ -46,7 +46,7 @@ fn hash_parts<F: Family>(key: &[u8], first: &[u8], second: &[u8]) -> Result<u64,
 
 // Whether the hash is the known one wherever the message is cut in two.
 fn at_every_cut<F: Family>(key: &[u8], message: &[u8], known: u64) -> bool
-    ensures { Decides result (hashing meaning key.now message.now ≡ taken known) }
+    ensures { Decides result (hashing F.meaning key.now message.now ≡ taken known) }
 {
     for cut in 0..message.len() + 1 {
         match hash_parts::<F>(key, &message[..cut], &message[cut..]) {
