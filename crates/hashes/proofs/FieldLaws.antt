@@ -15,7 +15,7 @@ use Rattle.hashes.specs.Frobenius.{frobenius, frobenius_power, one_lt}
 use Rattle.hashes.specs.Period.{frobenius_degree}
 use Rattle.hashes.specs.Remainder.{remainder_add, remainder_lt, remainder_small}
 use Rattle.hashes.specs.Roots.{Polynomial, constant, next, roots}
-use Rattle.std.specs.List.{AllByRecursion as All}
+use Rattle.std.specs.List.{AllByRecursion}
 
 module _ (f : ℕ) (irr : Irreducible f) where
   pos : 0 < f
@@ -73,8 +73,8 @@ module _ (f : ℕ) (irr : Irreducible f) where
       rw (suc-add (length cs) k, ← (add-suc (length cs) k))
       (longer (suc k) (λ y. bit_xor (times_mod f (g y) y) c) cs fit.1 (next c h fit.0 (λ y. refl)))
 
-  few_roots : (cs ys : List ℕ) → Fit f cs → (All (λ c. c ≡ 0) cs → ⊥) → Distinct ys
-      → All (λ y. (y < 2 ^ degree f) × (powers_sum f y cs ≡ 0)) ys → length ys < length cs
+  few_roots : (cs ys : List ℕ) → Fit f cs → (AllByRecursion (λ c. c ≡ 0) cs → ⊥) → Distinct ys
+      → AllByRecursion (λ y. (y < 2 ^ degree f) × (powers_sum f y cs ≡ 0)) ys → length ys < length cs
   few_roots [] ys fit some apart all = absurd (some tt)
   few_roots (c ∷ cs) ys fit some apart all = go (λ some roots. few_roots cs ys fit.1 some apart roots) (ℕ_discrete c 0)
     where
@@ -89,7 +89,7 @@ module _ (f : ℕ) (irr : Irreducible f) where
       horner : (y : ℕ) → evaluate f y c cs ≡ powers_sum f y (c ∷ cs)
       horner y = unfold powers_sum in evaluate_sum f pos y c cs fit.0 fit.1
 
-      go : ((All (λ c. c ≡ 0) cs → ⊥) → All (λ y. (y < 2 ^ degree f) × (powers_sum f y cs ≡ 0)) ys → length ys < length cs) → Dec (c ≡ 0) → length ys < suc (length cs)
+      go : ((AllByRecursion (λ c. c ≡ 0) cs → ⊥) → AllByRecursion (λ y. (y < 2 ^ degree f) × (powers_sum f y cs ≡ 0)) ys → length ys < length cs) → Dec (c ≡ 0) → length ys < suc (length cs)
       go rest (yes e) =
           le_step (rest (λ zeros. some (e, zeros))
           (all_from_∈ (λ y. (y < 2 ^ degree f) × (powers_sum f y cs ≡ 0)) ys (λ y m. ((root y m).0, sym (skip e y) ∙ (root y m).1))))

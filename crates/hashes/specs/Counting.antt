@@ -2,16 +2,16 @@
 use Rattle.std.specs.Prelude.{◌≡◌, ℕ, zero, suc, ◌<◌, ◌≤◌, ◌⊎◌, List, [], ◌∷◌, length, refl}
 use Rattle.std.proofs.Common.{sym, ap, subst, inl, inr, zero-le, suc-le-suc, arith}
 use native.Mathlib.Nat.{le_trans, le_of_eq, lt_irrefl, le_step, le-suc_iff}
-use Rattle.std.specs.List.{AllByRecursion as All}
+use Rattle.std.specs.List.{AllByRecursion}
 use Rattle.hashes.specs.Lists.{◌∈◌, Distinct}
 
 module _ {A : Type 0} where
-  pub ∈_all : (P : A → Type 0) (x : A) (xs : List A) → All P xs → x ∈ xs → P x
+  pub ∈_all : (P : A → Type 0) (x : A) (xs : List A) → AllByRecursion P xs → x ∈ xs → P x
   ∈_all P x (y ∷ ys) h (inl e) = subst P (sym e) h.0
   ∈_all P x (y ∷ ys) h (inr m) = ∈_all P x ys h.1 m
   ∈_all P x [] h m = absurd m
 
-  pub all_from_∈ : (P : A → Type 0) (xs : List A) → ((x : A) → x ∈ xs → P x) → All P xs
+  pub all_from_∈ : (P : A → Type 0) (xs : List A) → ((x : A) → x ∈ xs → P x) → AllByRecursion P xs
   all_from_∈ P [] h = tt
   all_from_∈ P (x ∷ xs) h = (h x (inl refl), all_from_∈ P xs (λ y m. h y (inr m)))
 
@@ -73,6 +73,6 @@ distinct_below zero = tt
 distinct_below (suc n) = (λ m. lt_irrefl n (below_∈ n n m), distinct_below n)
 
 -- A list without repeats of numbers below n has at most n of them.
-pub distinct_bounded : (n : ℕ) (xs : List ℕ) → Distinct xs → All (λ x. x < n) xs → length xs ≤ n
+pub distinct_bounded : (n : ℕ) (xs : List ℕ) → Distinct xs → AllByRecursion (λ x. x < n) xs → length xs ≤ n
 distinct_bounded n xs d h =
     le_trans (distinct_inside xs (below n) d (λ v m. ∈_below n v (∈_all (λ x. x < n) v xs h m))) (le_of_eq (length_below n))

@@ -9,7 +9,7 @@ use Rattle.hashes.specs.Field.{power, powers_sum}
 use Rattle.hashes.specs.Polynomial.{degree, times_mod}
 use Rattle.hashes.specs.FieldLemmas.{mod_assoc, mod_comm, mod-lt, mod_one_r, mod_xor_l}
 use Rattle.hashes.specs.Remainder.{remainder_small}
-use Rattle.std.specs.List.{AllByRecursion as All}
+use Rattle.std.specs.List.{AllByRecursion}
 
 -- each next word is added to the value so far times a
 unfoldable pub evaluate : ℕ → ℕ → ℕ → List ℕ → ℕ
@@ -18,7 +18,7 @@ evaluate p a r (w ∷ ws) = evaluate p a (bit_xor (times_mod p r a) w) ws
 
 -- every word is below x^n, the leading term of p
 abbrev pub Fit : ℕ → List ℕ → Type 0
-Fit p ws = All (λ w. w < 2 ^ degree p) ws
+Fit p ws = AllByRecursion (λ w. w < 2 ^ degree p) ws
 
 module _ (p : ℕ) (pos : 0 < p) where
   pub evaluate_sum : (a r : ℕ) (ws : List ℕ) → r < 2 ^ degree p → Fit p ws

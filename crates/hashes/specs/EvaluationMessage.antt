@@ -9,7 +9,7 @@ use Rattle.hashes.specs.Word.{Bytes, word}
 use Rattle.hashes.specs.Bytes.{word_64, word_injective}
 use Rattle.std.proofs.ByRecursion.{All-append, All-drop, All-take}
 use Rattle.std.proofs.lemmas.List.{get_or-append-add, nil_from_length, take_all, length-replicate}
-use Rattle.std.specs.List.{AllByRecursion as All}
+use Rattle.std.specs.List.{AllByRecursion}
 
 -- ---- the padding
 
@@ -69,7 +69,7 @@ unfolding words
 length_words zero bs = refl
 length_words (suc k) bs = ap suc (length_words k (drop 8 bs))
 
-pub words_lt : (k : ℕ) (bs : List ℕ) → Bytes bs → length bs ≡ 8 * k → All (λ w. w < 2 ^ 64) (words k bs)
+pub words_lt : (k : ℕ) (bs : List ℕ) → Bytes bs → length bs ≡ 8 * k → AllByRecursion (λ w. w < 2 ^ 64) (words k bs)
 unfolding words
 words_lt zero bs h l = tt
 words_lt (suc k) bs h l = (
@@ -91,7 +91,7 @@ words_injective (suc k) bs cs hb hc lb lc e =
 
 -- ---- both
 
-pub message_words_lt : (m : List ℕ) → Bytes m → All (λ w. w < 2 ^ 64) (message_words m)
+pub message_words_lt : (m : List ℕ) → Bytes m → AllByRecursion (λ w. w < 2 ^ 64) (message_words m)
 message_words_lt m h = words_lt (length m / 8 + 1) (padded m) (bytes_padded m h) (length_padded m)
 
 pub message_words_injective : (m n : List ℕ) → Bytes m → Bytes n → message_words m ≡ message_words n → m ≡ n

@@ -2,7 +2,7 @@
 use Rattle.std.specs.Prelude.{◌≡◌, ℕ, ◌^◌, ◌<◌, ◌≤◌, max, List, length, None, fold, Option, ◌≢◌, bit_xor}
 use Rattle.hashes.specs.Lists.{Distinct}
 use Rattle.hashes.specs.Word.{Bytes}
-use Rattle.std.specs.List.{AllByRecursion as All}
+use Rattle.std.specs.List.{AllByRecursion}
 
 -- A family by what it computes. Keys, messages and their parts are byte strings.
 pub record Meaning : Type 1 where
@@ -39,7 +39,7 @@ pub record Key (M : Meaning) (key : List ℕ) : Type 0 where
 
 -- a list without repeats of keys with the property has at most n entries
 abbrev pub AtMost : Meaning → ℕ → (List ℕ → Type 0) → Type 0
-AtMost M n P = (keys : List (List ℕ)) → Distinct keys → All (λ key. Key M key × P key) keys → length keys ≤ n
+AtMost M n P = (keys : List (List ℕ)) → Distinct keys → AllByRecursion (λ key. Key M key × P key) keys → length keys ≤ n
 
 -- The law. Two different messages, the longer of L bytes, and a word d: at most `bound L` keys make their hashes differ by d, bit by bit.
 abbrev pub Bounded : Meaning → Type 0

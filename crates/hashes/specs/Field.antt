@@ -3,7 +3,7 @@ use Rattle.std.specs.Prelude.{◌≡◌, ℕ, zero, suc, ◌^◌, ◌<◌, List,
 use Rattle.hashes.specs.Irreducible.{Irreducible}
 use Rattle.hashes.specs.Lists.{Distinct}
 use Rattle.hashes.specs.Polynomial.{degree, times_mod}
-use Rattle.std.specs.List.{AllByRecursion as All}
+use Rattle.std.specs.List.{AllByRecursion}
 
 -- a to the power k, modulo f
 unfoldable pub power : ℕ → ℕ → ℕ → ℕ
@@ -27,8 +27,8 @@ pub record FieldLaws (f : ℕ) : Type 0 where
   -- it has 2 ^ d elements, d being the degree of f, and each is its own power with the exponent 2 ^ d
   pub fermat : (y : ℕ) → y < 2 ^ degree f → power f (2 ^ degree f) y ≡ y
   -- a polynomial with n + 1 coefficients, not all of them zero, has at most n roots
-  pub few_roots : (cs ys : List ℕ) → All (λ c. c < 2 ^ degree f) cs → (All (λ c. c ≡ 0) cs → ⊥) → Distinct ys
-      → All (λ y. (y < 2 ^ degree f) × (powers_sum f y cs ≡ 0)) ys → length ys < length cs
+  pub few_roots : (cs ys : List ℕ) → AllByRecursion (λ c. c < 2 ^ degree f) cs → (AllByRecursion (λ c. c ≡ 0) cs → ⊥) → Distinct ys
+      → AllByRecursion (λ y. (y < 2 ^ degree f) × (powers_sum f y cs ≡ 0)) ys → length ys < length cs
 
 -- the residues modulo every irreducible polynomial are a field
 abbrev pub ResidueFields : Type 0

@@ -4,7 +4,7 @@ use Rattle.std.specs.Prelude.{◌≡◌, ℕ, suc, ◌+◌, ◌*◌, ◌^◌, �
 use Rattle.hashes.specs.Irreducible.{Irreducible}
 use Rattle.hashes.specs.Lists.{Distinct}
 use Rattle.hashes.specs.Polynomial.{Divides, degree, gcd, remainder, times}
-use Rattle.std.specs.List.{AllByRecursion as All}
+use Rattle.std.specs.List.{AllByRecursion}
 
 pub record PolynomialLaws : Type 0 where
   -- a commutative ring, in which each polynomial is its own negative
@@ -34,4 +34,4 @@ pub record PolynomialLaws : Type 0 where
   -- an irreducible polynomial that divides a product divides a factor
   pub prime : (p a b : ℕ) → Irreducible p → Divides p (times a b) → Divides p a ⊎ Divides p b
   -- how many irreducible polynomials of degree n divide a
-  pub few_divisors : (n a : ℕ) (ps : List ℕ) → 0 < a → Distinct ps → All (λ p. Irreducible p × (degree p ≡ n) × Divides p a) ps → length ps * n ≤ degree a
+  pub few_divisors : (n a : ℕ) (ps : List ℕ) → 0 < a → Distinct ps → AllByRecursion (λ p. Irreducible p × (degree p ≡ n) × Divides p a) ps → length ps * n ≤ degree a

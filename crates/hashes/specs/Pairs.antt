@@ -4,7 +4,7 @@ use Rattle.std.proofs.Common.{sym, ap, ap₂, subst, ◌∙◌, inl, inr, arith,
 use native.Mathlib.Nat.{le_trans, le_of_eq, mul-le-mul_right, mul_comm, suc-mul, zero-mul, add_comm}
 use Rattle.std.proofs.Math.Decide.{ℕ_discrete}
 use Rattle.std.proofs.lemmas.List.{length-map}
-use Rattle.std.specs.List.{AllByRecursion as All}
+use Rattle.std.specs.List.{AllByRecursion}
 use Rattle.hashes.specs.Lists.{◌∈◌, Distinct}
 use Rattle.hashes.specs.Counting.{∈_all, all_from_∈, distinct_inside, below, length_below, ∈_below, distinct_bounded}
 
@@ -45,8 +45,8 @@ pub record Split {A : Type 0} (Q R : A → Type 0) (xs : List A) : Type 0 where
   pub rs : List A
   pub qs_distinct : Distinct qs
   pub rs_distinct : Distinct rs
-  pub qs_have : All Q qs
-  pub rs_have : All R rs
+  pub qs_have : AllByRecursion Q qs
+  pub rs_have : AllByRecursion R rs
   pub qs_from : (v : A) → v ∈ qs → v ∈ xs
   pub rs_from : (v : A) → v ∈ rs → v ∈ xs
   pub sizes : length xs ≡ length qs + length rs
@@ -76,7 +76,7 @@ module _ {A : Type 0} (Q R : A → Type 0) where
     sizes = omega (arith, s.sizes);
   }
 
-  pub split : (xs : List A) → Distinct xs → All (λ x. Q x ⊎ R x) xs → Split Q R xs
+  pub split : (xs : List A) → Distinct xs → AllByRecursion (λ x. Q x ⊎ R x) xs → Split Q R xs
   split [] d h = record {
     qs = [];
     rs = [];
@@ -145,8 +145,8 @@ unfolding pairs
 
 -- COUNT OF PAIRS: the keys are pairs of numbers below n. At most k firsts are bad. Under any other first there is at most one key.
 -- Then there are at most n * (k + 1) keys.
-module _ (n k : ℕ) (Bad : ℕ → Type 0) (few : (ps : List ℕ) → Distinct ps → All Bad ps → length ps ≤ k) where
-  bad_pairs : (ks : List (ℕ × ℕ)) → Distinct ks → All (λ e. e.1 < n) ks → All (λ e. Bad e.0) ks → length ks ≤ k * n
+module _ (n k : ℕ) (Bad : ℕ → Type 0) (few : (ps : List ℕ) → Distinct ps → AllByRecursion Bad ps → length ps ≤ k) where
+  bad_pairs : (ks : List (ℕ × ℕ)) → Distinct ks → AllByRecursion (λ e. e.1 < n) ks → AllByRecursion (λ e. Bad e.0) ks → length ks ≤ k * n
   bad_pairs ks d h b =
       let o = once (map (λ e. e.0) ks) in
       le_trans (distinct_inside ks (pairs o.list (below n)) d
@@ -156,8 +156,8 @@ module _ (n k : ℕ) (Bad : ℕ → Type 0) (few : (ps : List ℕ) → Distinct 
       let t = map_∈ (λ e. e.0) p ks (o.from p m) in
       subst Bad (sym t.2) (∈_all (λ e. Bad e.0) t.0 ks b t.1))))))
 
-  pub pairs_bound : (ks : List (ℕ × ℕ)) → Distinct ks → All (λ e. (e.0 < n) × (e.1 < n)) ks
-      → All (λ e. Bad e.0 ⊎ ((f : ℕ × ℕ) → f ∈ ks → f.0 ≡ e.0 → f ≡ e)) ks → length ks ≤ n * (k + 1)
+  pub pairs_bound : (ks : List (ℕ × ℕ)) → Distinct ks → AllByRecursion (λ e. (e.0 < n) × (e.1 < n)) ks
+      → AllByRecursion (λ e. Bad e.0 ⊎ ((f : ℕ × ℕ) → f ∈ ks → f.0 ≡ e.0 → f ≡ e)) ks → length ks ≤ n * (k + 1)
   pairs_bound ks d h b =
       let s = split (λ e. Bad e.0) (λ e. (f : ℕ × ℕ) → f ∈ ks → f.0 ≡ e.0 → f ≡ e) ks d b in
       let few_bad = bad_pairs s.qs s.qs_distinct (all_from_∈ (λ e. e.1 < n) s.qs (λ e m. (∈_all (λ e. (e.0 < n) × (e.1 < n)) e ks h (s.qs_from e m)).1)) s.qs_have in

@@ -2,7 +2,7 @@
 use Rattle.std.specs.Prelude.{◌≡◌, ℕ, ◌+◌, ◌*◌, ◌/◌, ◌^◌, ◌<◌, ◌≤◌, ◌≢◌, ◌⊎◌, List, length, refl}
 use Rattle.std.proofs.Common.{sym, ap, ap₂, ◌∙◌, subst, inl, inr, le_trans, le-div_iff_mul-le, arith}
 use Rattle.std.specs.Int.Bits.{bit_xor, xor_zero_r}
-use Rattle.std.specs.List.{AllByRecursion as All}
+use Rattle.std.specs.List.{AllByRecursion}
 use Rattle.hashes.specs.Lists.{◌∈◌, Distinct}
 use Rattle.hashes.specs.Polynomial.{times, degree, Divides, gcd}
 use Rattle.hashes.specs.Irreducible.{Irreducible}
@@ -74,7 +74,7 @@ pub record Bad (n d p : ℕ) : Type 0 where
   pub irreducible : Irreducible (2 ^ n + p)
   pub divides : Divides (2 ^ n + p) d
 
-pub few_bad : (n m d : ℕ) → 1 ≤ n → 0 < d → degree d ≤ m → (ps : List ℕ) → Distinct ps → All (Bad n d) ps → length ps ≤ m / n
+pub few_bad : (n m d : ℕ) → 1 ≤ n → 0 < d → degree d ≤ m → (ps : List ℕ) → Distinct ps → AllByRecursion (Bad n d) ps → length ps ≤ m / n
 few_bad n m d pos d-pos d-le ps dist bad =
     (le-div_iff_mul-le pos).1 (le_trans (irreducible_divisors (λ p. 2 ^ n + p) (λ j k e. omega arith) n d d-pos ps dist each) d-le)
   where
@@ -84,7 +84,7 @@ few_bad n m d pos d-pos d-le ps dist bad =
 -- Two different messages of at most L bytes, and a word d: a list without repeats of keys under which their hashes differ by d has at
 -- most 2^n (floor(8 L / n) + 1) entries.
 pub toeplitz_law : (n : ℕ) → 1 ≤ n → (a b : List ℕ) (L w : ℕ) (ks : List (ℕ × ℕ)) → Bytes a → Bytes b → a ≢ b → length a ≤ L → length b ≤ L
-    → Distinct ks → All (λ k. PairKey n k) ks → All (λ k. Differ n k.0 k.1 a b w) ks → length ks ≤ 2 ^ n * (8 * L / n + 1)
+    → Distinct ks → AllByRecursion (λ k. PairKey n k) ks → AllByRecursion (λ k. Differ n k.0 k.1 a b w) ks → length ks ≤ 2 ^ n * (8 * L / n + 1)
 toeplitz_law n pos a b L w ks a_bytes b_bytes ne a_le b_le dist keys same =
     pairs_bound (2 ^ n) (8 * L / n) (Bad n d) (few_bad n (8 * L) d pos (difference_pos a b L a_bytes b_bytes ne a_le b_le) (difference_degree a b L a_bytes b_bytes ne a_le b_le))
     ks dist

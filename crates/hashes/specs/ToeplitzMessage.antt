@@ -5,7 +5,7 @@ use Rattle.std.proofs.Math.Nat.{mod-one}
 use Rattle.std.proofs.Math.Decide.{dec_le}
 use Rattle.std.proofs.Math.Arith.{digits_lt, digits_div, digits_mod}
 use Rattle.std.proofs.lemmas.Nat.{mod-pow-add, xor_lt, xor_comm}
-use Rattle.std.specs.List.{AllByRecursion as All}
+use Rattle.std.specs.List.{AllByRecursion}
 use Rattle.hashes.specs.Polynomial.{degree}
 use Rattle.hashes.specs.Word.{Bytes}
 use Rattle.hashes.specs.Toeplitz.{bit, bits, byte_bits, message_bits, chosen, toeplitz, lfsr, state}
@@ -25,7 +25,7 @@ bit_polynomial m = from_bits (message_bits m)
 
 -- ---- lists of bits
 
-pub bits_digits : (k a : ℕ) → All (λ d. d < 2) (bits k a)
+pub bits_digits : (k a : ℕ) → AllByRecursion (λ d. d < 2) (bits k a)
 unfolding bits
 bits_digits zero a = tt
 bits_digits (suc k) a = (bit_lt a k, bits_digits k a)
@@ -35,20 +35,20 @@ unfolding bits
 length_bits zero a = refl
 length_bits (suc k) a = ap suc (length_bits k a)
 
-all_append : (xs ys : List ℕ) → All (λ d. d < 2) xs → All (λ d. d < 2) ys → All (λ d. d < 2) (xs ++ ys)
+all_append : (xs ys : List ℕ) → AllByRecursion (λ d. d < 2) xs → AllByRecursion (λ d. d < 2) ys → AllByRecursion (λ d. d < 2) (xs ++ ys)
 all_append [] ys h k = k
 all_append (x ∷ xs) ys h k = (h.0, all_append xs ys h.1 k)
 
-pub byte_digits : (m : List ℕ) → All (λ d. d < 2) (byte_bits m)
+pub byte_digits : (m : List ℕ) → AllByRecursion (λ d. d < 2) (byte_bits m)
 unfolding byte_bits
 byte_digits [] = tt
 byte_digits (b ∷ m) = all_append (bits 8 b) (byte_bits m) (bits_digits 8 b) (byte_digits m)
 
-pub message_digits : (m : List ℕ) → All (λ d. d < 2) (message_bits m)
+pub message_digits : (m : List ℕ) → AllByRecursion (λ d. d < 2) (message_bits m)
 unfolding message_bits
 message_digits m = all_append (byte_bits m) (1 ∷ []) (byte_digits m) (suc-le-suc (suc-le-suc zero-le), tt)
 
-pub from_bits_lt : (ds : List ℕ) → All (λ d. d < 2) ds → from_bits ds < 2 ^ length ds
+pub from_bits_lt : (ds : List ℕ) → AllByRecursion (λ d. d < 2) ds → from_bits ds < 2 ^ length ds
 unfolding from_bits
 from_bits_lt [] h = suc-le-suc zero-le
 from_bits_lt (d ∷ ds) h = rw (pow-suc 2 (length ds)) (digits_lt (from_bits_lt ds h.1) h.0)
@@ -156,7 +156,7 @@ module _ (a b : List ℕ) (L : ℕ) (a_bytes : Bytes a) (b_bytes : Bytes b) (dif
 
 -- ---- the hash is the polynomial of the register, at the first state
 
-chosen_is : (n p s j : ℕ) (ds : List ℕ) → All (λ d. d < 2) ds → chosen n p s j ds ≡ act (lfsr n p) (from_bits ds) (state n p s j)
+chosen_is : (n p s j : ℕ) (ds : List ℕ) → AllByRecursion (λ d. d < 2) ds → chosen n p s j ds ≡ act (lfsr n p) (from_bits ds) (state n p s j)
 unfolding chosen from_bits state
 chosen_is n p s j [] h = sym (act_zero_l (lfsr n p) (state n p s j))
 chosen_is n p s j (d ∷ ds) h =

@@ -2,7 +2,7 @@
 ghost use Rattle.std.specs.Prelude.{◌≡◌, ◌*◌, ◌/◌, ◌%◌, ◌^◌, bit_and, bit_or, bit_xor, count_ones};
 ghost use Rattle.hashes.specs.Family.{absorbed};
 ghost use Rattle.hashes.specs.Toeplitz.{ToeplitzFacts, bits, chosen, toeplitz_family, toeplitz_hash, toeplitz_state};
-ghost use Rattle.hashes.specs.Toeplitz.{state as stateAt};
+ghost use Rattle.hashes.specs.Toeplitz.{state as state_at};
 ghost use Rattle.hashes.specs.ToeplitzFamily.{toeplitz_lawful};
 
 use crate::family::Family;
@@ -31,7 +31,7 @@ fn step(register: u64, taps: u64) -> u64
 
 // What one byte does at the register S_j: S_(j+8), and the sum of the S_(j+i) over the byte's ones, its top bit first.
 fn run_byte(taps: u64, register: u64, byte: u8) -> (u64, u64)
-    ensures after { result.0 ≡ stateAt 64 taps register 8 }
+    ensures after { result.0 ≡ state_at 64 taps register 8 }
     ensures chosen { result.1 ≡ chosen 64 taps register 0 (bits 8 byte) }
 {
     let mut word = register;

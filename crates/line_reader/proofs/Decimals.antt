@@ -2,7 +2,7 @@
 use Rattle.std.proofs.Common.{◌≡◌, ℕ, ◌+◌, ◌-◌, ◌*◌, ◌<◌, ◌≤◌, true, not, eqb, leb, List, [], ◌∷◌, map, length, get_or, fold, sym, refl, ap, ◌∙◌, arith, lit≤}
 use lib.ListN.{length-map}
 use Rattle.std.specs.Int.Digits.{digits_of, number_from_digits_after}
-use Rattle.std.specs.List.{AllByRecursion as All}
+use Rattle.std.specs.List.{AllByRecursion}
 use Rattle.std.proofs.lemmas.Int.Digits.{all_below_base_digits_of, first_digits_of, length-digits_of-le, number_digits_of}
 use Rattle.std.proofs.ByRecursion.{All-map, All-weaker}
 use Rattle.std.proofs.lemmas.Bool.{and_from, not_from_false, le-leb, ne_eqb}
@@ -22,7 +22,7 @@ worth_after a (d ∷ ds) =
     let e : 10 * a + (48 + d - 48) ≡ a * 10 + d = omega arith in
     ap (λ (x : ℕ). fold (λ (n b : ℕ). 10 * n + (b - 48)) x (map (λ (d : ℕ). 48 + d) ds)) e ∙ worth_after (a * 10 + d) ds
 
-first_byte : (ds : List ℕ) → 0 < get_or ds 0 0 → All (λ (d : ℕ). d < 10) ds
+first_byte : (ds : List ℕ) → 0 < get_or ds 0 0 → AllByRecursion (λ (d : ℕ). d < 10) ds
     → (1 ≤ length (map (λ (d : ℕ). 48 + d) ds)) × (leads (get_or (map (λ (d : ℕ). 48 + d) ds) 0 0) ≡ true)
 first_byte [] h under = absurd (omega arith)
 first_byte (d ∷ ds) h under = (omega arith, lead_byte d h under.0)

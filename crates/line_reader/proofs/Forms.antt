@@ -1,6 +1,6 @@
 -- Reading a line of each form.
 use Rattle.std.proofs.Common.{◌≡◌, ℕ, true, false, eqb, ◌≢◌, ◌⊎◌, List, [], ◌∷◌, ◌++◌, Ok, codes, sym, refl, ap, subst, inl, inr, append-nil}
-use Rattle.std.specs.List.{AllByRecursion as All}
+use Rattle.std.specs.List.{AllByRecursion}
 use Rattle.std.proofs.lemmas.Bool.{cases_Bool, cond_both, eqb-false, ne_eqb}
 use Rattle.line_reader.specs.Grammar.{spelling, Sentence, nothing, zone, point, rule, Spells, empty_line, comment_line, zone_line, point_line, rule_line, OpensEscape, opens}
 use Rattle.line_reader.specs.Reading.{Stage, and_then, first, read_word, read_number, read_name, read_kind, past_remark, read_comment, read_zone, read_point, read_rule, form, read_form}
@@ -16,11 +16,11 @@ word_then : {A : Type 0} {L : List ℕ → A → Type 0} {O : List ℕ → Type 
 word_then {A} {L} {O} k q next text =
     then_reads (read_word k) (λ _. q) (λ w o. absurd o) (word_reads k text) (λ x _ e t. subst (λ z. Reads q (λ y. L (z ++ y)) (λ y. O (z ++ y)) t) (sym e) (next t))
 
-remark_reads : (text : List ℕ) → Reads (λ t. (past_remark t, Ok nothing)) (λ w s. All (λ b. b ≢ 10) w × (s ≡ nothing)) Never text
+remark_reads : (text : List ℕ) → Reads (λ t. (past_remark t, Ok nothing)) (λ w s. AllByRecursion (λ b. b ≢ 10) w × (s ≡ nothing)) Never text
 remark_reads [] = stay_end (Ok nothing) refl (tt, refl)
 remark_reads (b ∷ t) = decide (cases_Bool (eqb b 10)) (remark_reads t)
   where
-    decide : ((eqb b 10 ≡ true) ⊎ (eqb b 10 ≡ false)) → Reads (λ t. (past_remark t, Ok nothing)) (λ w s. All (λ b. b ≢ 10) w × (s ≡ nothing)) Never t → Reads (λ t. (past_remark t, Ok nothing)) (λ w s. All (λ b. b ≢ 10) w × (s ≡ nothing)) Never (b ∷ t)
+    decide : ((eqb b 10 ≡ true) ⊎ (eqb b 10 ≡ false)) → Reads (λ t. (past_remark t, Ok nothing)) (λ w s. AllByRecursion (λ b. b ≢ 10) w × (s ≡ nothing)) Never t → Reads (λ t. (past_remark t, Ok nothing)) (λ w s. AllByRecursion (λ b. b ≢ 10) w × (s ≡ nothing)) Never (b ∷ t)
     decide (inl e) h = stay_at b t (Ok nothing) (λ s. rw e) (tt, refl)
     decide (inr e) h = pass b (λ s. rw e) (weaken (λ w s (a, q). ((eqb-false b 10 e, a), q)) (λ w o. o) h)
 
@@ -71,7 +71,7 @@ form_reads text = by_first form text (chosen (first text))
 
 -- ---- every line of the grammar is read whole
 
-remark_whole : (t : List ℕ) → All (λ b. b ≢ 10) t → past_remark t ≡ []
+remark_whole : (t : List ℕ) → AllByRecursion (λ b. b ≢ 10) t → past_remark t ≡ []
 remark_whole [] all = refl
 remark_whole (b ∷ t) all = let e = ne_eqb b 10 all.0 in rw e (remark_whole t all.1)
 

@@ -1,6 +1,6 @@
 -- Reading a word and a number.
 use Rattle.std.proofs.Common.{◌≡◌, ℕ, zero, suc, ◌+◌, ◌-◌, ◌*◌, ◌≤◌, true, false, eqb, ◌⊎◌, List, [], ◌∷◌, ◌++◌, length, Ok, Err, fold, sym, refl, ap, ◌∙◌, inl, inr, append-nil, arith}
-use Rattle.std.specs.List.{AllByRecursion as All}
+use Rattle.std.specs.List.{AllByRecursion}
 use Rattle.std.proofs.lemmas.Bool.{cases_Bool, eqb-true, and_parts}
 use Rattle.line_reader.specs.declared.fault.ReadFault.TheVariants.{Syntax, Escape}
 use Rattle.line_reader.specs.Grammar.{digit, leads, Number}
@@ -35,7 +35,7 @@ more n b = 10 * n + (b - 48)
 
 -- at most n digits, which take v to m
 pub record Run (n v : ℕ) (w : List ℕ) (m : ℕ) : Type 0 where
-  pub digits : All (λ b. digit b ≡ true) w
+  pub digits : AllByRecursion (λ b. digit b ≡ true) w
   pub few : length w ≤ n
   pub value : m ≡ fold more v w
 
@@ -62,7 +62,7 @@ number_reads (b ∷ t) = decide (cases_Bool (leads b))
         (weaken (λ w m r. record { digits = (d, r.digits); some = omega arith; few = omega arith; lead = e; value = r.value }) (λ w o. o) (digits_reads 4 (more 0 b) t))
     decide (inr e) = stay_at b t (Err Syntax) (λ s. rw e) ((49 ∷ [], 1, one), no_fault)
 
-digits_whole : (n v : ℕ) (w t : List ℕ) → All (λ b. digit b ≡ true) w → length w ≤ n → digit (first t) ≡ false → read_digits n v (w ++ t) ≡ (t, Ok (fold more v w))
+digits_whole : (n v : ℕ) (w t : List ℕ) → AllByRecursion (λ b. digit b ≡ true) w → length w ≤ n → digit (first t) ≡ false → read_digits n v (w ++ t) ≡ (t, Ok (fold more v w))
 digits_whole zero v [] t all few e = refl
 digits_whole zero v (b ∷ w) t all few e = absurd (omega arith)
 digits_whole (suc n) v [] [] all few e = refl

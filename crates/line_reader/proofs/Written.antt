@@ -1,6 +1,6 @@
 -- The line that spells a record is read as it, and the text of records is cut into their lines.
 use Rattle.std.proofs.Common.{◌≡◌, ℕ, zero, suc, ◌<◌, ◌≤◌, Bool, true, false, cond, not, ◌&&◌, ◌||◌, eqb, leb, ◌≢◌, List, [], ◌∷◌, ◌++◌, map, Ok, codes, sym, refl, ap, ◌∙◌, subst, inl, inr, true≢false, arith, lit<}
-use Rattle.std.specs.List.{AllByRecursion as All}
+use Rattle.std.specs.List.{AllByRecursion}
 use Rattle.std.proofs.ByRecursion.{All-weaker, All-append}
 use Rattle.std.proofs.lemmas.Bool.{and_from, and_parts, not_from_false, le-leb, leb-true, leb-false, eqb-true, eqb-false, ne_eqb, cond-false}
 use Rattle.hashes.specs.Word.{Bytes}
@@ -33,7 +33,7 @@ escaped_byte b w v (inl h) n false false false p q r =
     n
 escaped_byte b w v (inr h) n false false false p q r = absurd (eqb-false b 10 r h)
 
-escaped_name : (name : List ℕ) → All NameByte name → Name (escaped name) name
+escaped_name : (name : List ℕ) → AllByRecursion NameByte name → Name (escaped name) name
 escaped_name [] h = none
 escaped_name (b ∷ bs) h = escaped_byte b (escaped bs) bs h.0 (escaped_name bs h.1) (eqb b 34) (eqb b 92) (eqb b 10) refl refl refl
 
@@ -74,7 +74,7 @@ LineByte : ℕ → Type 0
 LineByte b = (b ≢ 10) × (b < 256)
 
 LineBytes : List ℕ → Type 0
-LineBytes w = All LineByte w
+LineBytes w = AllByRecursion LineByte w
 
 digit_line : (b : ℕ) → digit b ≡ true → LineByte b
 unfolding LineByte
@@ -97,7 +97,7 @@ escaped_line b w h n false false true r = (((λ e. omega arith), omega arith), (
 escaped_line b w (inl h) n false false false r = ((eqb-false b 10 r, omega (arith, h.1)), n)
 escaped_line b w (inr h) n false false false r = absurd (eqb-false b 10 r h)
 
-name_bytes : (name : List ℕ) → All NameByte name → LineBytes (escaped name)
+name_bytes : (name : List ℕ) → AllByRecursion NameByte name → LineBytes (escaped name)
 unfolding LineBytes
 name_bytes [] h = tt
 name_bytes (b ∷ bs) h = escaped_line b (escaped bs) h.0 (name_bytes bs h.1) (eqb b 34) (eqb b 92) (eqb b 10) refl
@@ -112,7 +112,7 @@ unfolding LineBytes LineByte feeds
 word_bytes [] e = tt
 word_bytes (b ∷ bs) e = go (word_bytes bs) (eqb b 10) (leb 256 b) refl refl e
   where
-    go : (feeds bs ≡ false → All LineByte bs) → (x y : Bool) → eqb b 10 ≡ x → leb 256 b ≡ y → cond (x || y) true (feeds bs) ≡ false → LineByte b × All LineByte bs
+    go : (feeds bs ≡ false → AllByRecursion LineByte bs) → (x y : Bool) → eqb b 10 ≡ x → leb 256 b ≡ y → cond (x || y) true (feeds bs) ≡ false → LineByte b × AllByRecursion LineByte bs
     go later true y p r q = absurd (true≢false q)
     go later false true p r q = absurd (true≢false q)
     go later false false p r q = ((eqb-false b 10 p, leb-false 256 b r), later q)

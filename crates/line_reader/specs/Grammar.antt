@@ -1,6 +1,6 @@
 -- The grammar of a line: what a line says, and where and how one fails that is not in the grammar.
 use Rattle.std.specs.Prelude.{◌≡◌, ℕ, ◌+◌, ◌-◌, ◌*◌, ◌≤◌, Bool, true, cond, not, ◌&&◌, ◌≢◌, List, [], ◌∷◌, ◌++◌, length, take, Ok, Err, codes, fold, Result, ◌==◌, nat_le, slice_index}
-use Rattle.std.specs.List.{AllByRecursion as All}
+use Rattle.std.specs.List.{AllByRecursion}
 use Rattle.line_reader.specs.declared.fault.ReadFault.{ReadFault}
 use Rattle.line_reader.specs.declared.fault.ReadFault.TheVariants.{Syntax, Escape}
 use Rattle.line_reader.specs.declared.kind.Kind.{Kind}
@@ -20,7 +20,7 @@ worth w = fold (λ n b. 10 * n + (b - 48)) 0 w
 
 -- w spells the number n by one to five digits
 pub record Number (w : List ℕ) (n : ℕ) : Type 0 where
-  pub digits : All (λ b. digit b ≡ true) w
+  pub digits : AllByRecursion (λ b. digit b ≡ true) w
   pub some : 1 ≤ length w
   pub few : length w ≤ 5
   pub lead : leads (slice_index w 0) ≡ true
@@ -56,7 +56,7 @@ pub data Sentence : Type 0 where
 -- a line, and what it says
 pub data Spells : List ℕ → Sentence → Type 0 where
   empty_line : Spells [] nothing
-  comment_line : (t : List ℕ) → All (λ b. b ≢ 10) t → Spells (codes "#" ++ t) nothing
+  comment_line : (t : List ℕ) → AllByRecursion (λ b. b ≢ 10) t → Spells (codes "#" ++ t) nothing
   zone_line : {n : ℕ} {u w v : List ℕ} → Number u n → Name w v → Spells (codes "zone " ++ (u ++ (codes " \"" ++ (w ++ codes "\"")))) (zone n w)
   point_line : {n z : ℕ} {u v : List ℕ} {k : Kind} → Number u n → Number v z → Spells (codes "point " ++ (u ++ (codes " " ++ (v ++ (codes " " ++ spelling k))))) (point n z k)
   rule_line : {z n : ℕ} {u v : List ℕ} → Number u z → Number v n → Spells (codes "rule " ++ (u ++ (codes " " ++ v))) (rule z n)

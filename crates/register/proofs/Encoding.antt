@@ -1,7 +1,7 @@
 -- The message tells its records: equal messages are of equal records.
 use Rattle.std.proofs.Common.{◌≡◌, ℕ, ◌+◌, ◌*◌, ◌/◌, ◌%◌, ◌<◌, ◌≤◌, Bool, true, false, cond, leb, ◌⊎◌, List, [], ◌∷◌, ◌++◌, length, take, drop, Some, None, Decides, Option, sym, refl, ap, ◌∙◌, ap₂, inl, inr, append_assoc, append-nil, arith, length-append, take-append-drop, length-take-le}
 use lib.Seq.{take-append_seam, drop-append_seam}
-use Rattle.std.specs.List.{AllByRecursion as All}
+use Rattle.std.specs.List.{AllByRecursion}
 use Rattle.std.proofs.lemmas.Bool.Decides.{Decides-or, Decides-and, Decides-eqb}
 use Rattle.std.proofs.ByRecursion.{All-append}
 use Rattle.hashes.specs.Word.{Bytes}
@@ -139,7 +139,7 @@ field_bytes (zone n name) h =
 field_bytes (point n z k) h = omega arith
 field_bytes (rule z p) h = omega arith
 
-pub message_bytes : (rs : List Record) → All Encodable rs → Bytes (message rs)
+pub message_bytes : (rs : List Record) → AllByRecursion Encodable rs → Bytes (message rs)
 message_bytes [] h = tt
 message_bytes (r ∷ rs) h = All-append (λ b. b < 256) (bytes_of (field_of r)) (message rs) (field_bytes r h.0) (message_bytes rs h.1)
 

@@ -1,6 +1,6 @@
 -- An image's message, by its definition and by the function; and the message of an image of records.
 use Rattle.std.proofs.Common.{◌≡◌, ℕ, zero, suc, ◌≤◌, Bool, true, false, cond, ◌⊎◌, List, [], ◌∷◌, ◌++◌, map, length, Some, None, Decides, Option, sym, refl, ap, ◌∙◌, subst, inl, inr, append_assoc, append-nil, arith}
-use Rattle.std.specs.List.{AllByRecursion as All}
+use Rattle.std.specs.List.{AllByRecursion}
 use Rattle.std.proofs.lemmas.Bool.Decides.{not_from_Decides}
 use Rattle.hashes.specs.Word.{Bytes}
 use Rattle.register.specs.Records.{Record, zone, point, rule, Field, field, bytes_of, field_of, message}
@@ -22,7 +22,7 @@ not_seal f n = go (is_seal f) refl
     go false e = refl
 
 -- fields that are no seal fields, and then a seal field
-walk : (fs : List Field) (s : Field) (rest : List ℕ) → All (λ f. ¬ SealField f) fs → SealField s →
+walk : (fs : List Field) (s : Field) (rest : List ℕ) → AllByRecursion (λ f. ¬ SealField f) fs → SealField s →
     (fuel : ℕ) (bytes : List ℕ) → length bytes ≤ fuel → bytes ≡ fields_bytes fs ++ (bytes_of s ++ rest) → message_from fuel bytes ≡ fields_bytes fs
 walk [] s rest h k zero bytes l e = absurd (let n = field_shorter bytes s rest e in omega arith)
 walk [] s rest h k (suc fuel) bytes l e = rw (ap next_field e ∙ next_field_reads s rest, (decides_seal_field s).1 k)
@@ -82,7 +82,7 @@ record_field (zone n name) h = omega (arith, h.0)
 record_field (point n z k) h = omega (arith, h.0)
 record_field (rule z p) h = omega (arith, h.0)
 
-record_fields : (rs : List Record) → All (λ f. ¬ SealField f) (map field_of rs)
+record_fields : (rs : List Record) → AllByRecursion (λ f. ¬ SealField f) (map field_of rs)
 record_fields [] = tt
 record_fields (r ∷ rs) = (record_field r, record_fields rs)
 

@@ -1,6 +1,6 @@
 -- Runs of calls: the function and the relation agree, and what holds of every run.
 use Rattle.std.proofs.Common.{◌≡◌, ◌≤◌, List, [], ◌∷◌, ◌++◌, length, Some, None, Option, sym, refl, ap, ◌∙◌, append_assoc, append-nil, arith}
-use Rattle.std.specs.List.{AllByRecursion as All}
+use Rattle.std.specs.List.{AllByRecursion}
 use Rattle.register.specs.declared.fault.RecordFault.{RecordFault}
 use Rattle.register.specs.Records.{Record, message}
 use Rattle.register.specs.Known.{refusal}
@@ -48,7 +48,7 @@ run_takes before (b ∷ bs) answers after (calls {between = t} s r) = go b _ t s
     go (unread n k) a between rejects m = m
 
 -- every record taken fits its field
-pub taken_encodable : (before rs : List Record) → TakenAfter before rs → All Encodable rs
+pub taken_encodable : (before rs : List Record) → TakenAfter before rs → AllByRecursion Encodable rs
 taken_encodable before [] h = tt
 taken_encodable before (r ∷ rs) h = (accepted_encodable before r h.0, taken_encodable (before ++ (r ∷ [])) rs h.1)
 

@@ -1,7 +1,7 @@
 -- The site book: when each row of the table fits a record, and which records the book takes.
 -- A record comes after the records taken before it; the first row that fits refuses it.
 use Rattle.std.specs.Prelude.{◌≡◌, ℕ, ◌<◌, ◌≤◌, ◌⊎◌, List, [], ◌∷◌, ◌++◌, length}
-use Rattle.std.specs.List.{AllByRecursion as All}
+use Rattle.std.specs.List.{AllByRecursion}
 use Rattle.hashes.specs.Lists.{◌∈◌}
 use Rattle.register.specs.declared.fault.RecordFault.{RecordFault}
 use Rattle.register.specs.declared.fault.RecordFault.TheVariants.{Range, Name, Repeated, Missing, Full}
@@ -23,7 +23,7 @@ abbrev pub NameByte : ℕ → Type 0
 NameByte b = ((0x20 ≤ b) × (b ≤ 0x7E)) ⊎ (b ≡ 0x0A)
 
 abbrev pub ZoneName : List ℕ → Type 0
-ZoneName name = (1 ≤ length name) × (length name ≤ 40) × All NameByte name
+ZoneName name = (1 ≤ length name) × (length name ≤ 40) × AllByRecursion NameByte name
 
 -- the most bytes that a message may have
 abbrev pub limit : ℕ

@@ -1,6 +1,6 @@
 -- The first entry of a list that has a property.
 use Rattle.std.specs.Prelude.{Bool, cond, List, [], ◌∷◌, Some, None, Option}
-use Rattle.std.specs.List.{AllByRecursion as All}
+use Rattle.std.specs.List.{AllByRecursion}
 
 -- a is the first entry with P
 pub data First {A : Type 0} (P : A → Type 0) : List A → A → Type 0 where
@@ -9,7 +9,7 @@ pub data First {A : Type 0} (P : A → Type 0) : List A → A → Type 0 where
 
 -- no entry has P
 abbrev pub NoneOf : {A : Type 0} → (A → Type 0) → List A → Type 0
-NoneOf P entries = All (λ a. ¬ P a) entries
+NoneOf P entries = AllByRecursion (λ a. ¬ P a) entries
 
 -- the first entry that passes a test
 abbrev pub first_that : {A : Type 0} → (A → Bool) → List A → Option A

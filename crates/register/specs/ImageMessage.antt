@@ -1,7 +1,7 @@
 -- An image's message: all before its first seal field, or the whole image if it has none.
 -- Fields are walked by their framing, whatever their tag: tag, two length bytes, value.
 use Rattle.std.specs.Prelude.{◌≡◌, ℕ, zero, suc, cond, List, [], ◌∷◌, ◌++◌, length, Some, None, Option}
-use Rattle.std.specs.List.{AllByRecursion as All}
+use Rattle.std.specs.List.{AllByRecursion}
 use Rattle.register.specs.Records.{Field, field, bytes_of}
 use Rattle.register.specs.Fields.{next_field, seal_tag, seal_length, is_seal}
 
@@ -16,7 +16,7 @@ fields_bytes (f ∷ fs) = bytes_of f ++ fields_bytes fs
 -- m is all before the first seal field of an image
 pub record BeforeSeal (image m : List ℕ) : Type 0 where
   pub fields : List Field
-  pub others : All (λ f. ¬ SealField f) fields
+  pub others : AllByRecursion (λ f. ¬ SealField f) fields
   pub seal : Field
   pub is_one : SealField seal
   pub rest : List ℕ
