@@ -148,7 +148,7 @@ fn check_row(name: &str, code: u8, image: &[u8], buffer: &[u8]) {
 
 /// Times the whole program, from its start to its end, if it was built.
 fn processes(random: &mut Random, keys: &Keys) {
-    let program = PathBuf::from(env!("CARGO_MANIFEST_DIR")).join("../target/bin/sealsite");
+    let program = PathBuf::from(env!("CARGO_MANIFEST_DIR")).join("../crates/sealsite/out/sealsite");
     if !program.exists() {
         println!("sealsite was not built: {} is not there", program.display());
         return;

@@ -115,9 +115,9 @@ module _ (T : ℕ → ℕ) (T_xor : (a b : ℕ) → T (bit_xor a b) ≡ bit_xor 
 
   -- words stay words
   pub act_lt : (n : ℕ) → ((a : ℕ) → a < 2 ^ n → T a < 2 ^ n) → (d s : ℕ) → s < 2 ^ n → act T d s < 2 ^ n
-  act_lt n T-lt d s h =
+  act_lt n T_lt d s h =
       bin_ind (λ (d : ℕ). act T d s < 2 ^ n) (rw (act_zero_l T s) (lib.Pow.pow_pos n))
-      (λ d ih. rw (act_step d s) (xor_lt n (T (act T (d / 2) s)) (d % 2 * s) (T-lt (act T (d / 2) s) ih) (scaled (d % 2) (digit_cases (digit_lt d))))) d
+      (λ d ih. rw (act_step d s) (xor_lt n (T (act T (d / 2) s)) (d % 2 * s) (T_lt (act T (d / 2) s) ih) (scaled (d % 2) (digit_cases (digit_lt d))))) d
     where
       scaled : (c : ℕ) → (c ≡ 0) ⊎ (c ≡ 1) → c * s < 2 ^ n
       scaled c (inl e) = rw (e, zero-mul s) (lib.Pow.pow_pos n)

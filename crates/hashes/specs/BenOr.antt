@@ -146,8 +146,8 @@ passes_irreducible p h test = record { no_constant = h; no_divisor = split }
             f_low = degree_quotient (divisor_pos pos div) k
 
             of_period : (m : ℕ) × (1 ≤ m) × (m ≤ degree f) × (frobenius f m (remainder 2 f) ≡ remainder 2 f) → ⊥
-            of_period (m, m-one, m-f, e) =
-                not_one (subst (λ (x : ℕ). Divides f x) (test m m-one (omega (arith, f_low))) (gcd_greatest f_p (divides_of_remainder f y f_pos gone)))
+            of_period (m, m_one, m_f, e) =
+                not_one (subst (λ (x : ℕ). Divides f x) (test m m_one (omega (arith, f_low))) (gcd_greatest f_p (divides_of_remainder f y f_pos gone)))
               where
                 y : ℕ
                 y = bit_xor (frobenius p m 2) 2
@@ -156,7 +156,7 @@ passes_irreducible p h test = record { no_constant = h; no_divisor = split }
                 gone =
                     remainder_xor f f_pos (frobenius p m 2) 2
                     ∙ ap (λ (x : ℕ). bit_xor x (remainder 2 f))
-                    (frobenius_divisor p f pos f_p m 2 ∙ ap (λ (x : ℕ). remainder x f) (sym (frobenius_start f m 2 f_pos m-one) ∙ e) ∙ remainder_remainder f f_pos 2)
+                    (frobenius_divisor p f pos f_p m 2 ∙ ap (λ (x : ℕ). remainder x f) (sym (frobenius_start f m 2 f_pos m_one) ∙ e) ∙ remainder_remainder f f_pos 2)
                     ∙ xor_self (remainder 2 f)
 
                 not_one : Divides f 1 → ⊥

@@ -1,3 +1,4 @@
+-- What the contracts cite: definitions and statements.
 pub mod Lists
 pub mod Word
 pub mod Polynomial
@@ -9,38 +10,46 @@ pub mod KeyFault
 pub mod Division
 pub mod Toeplitz
 pub mod Evaluation
-pub mod DivisionFamily
-pub mod Bytes
+-- From here on lemmas, which need no belief: the proof of a family's law may name only what stands in this folder.
+-- lists
 pub mod Counting
-pub mod DivisionLaw
+pub mod Pairs
+pub mod Bytes
+-- polynomials
 pub mod Xor
-pub mod Degree
 pub mod Horner
 pub mod Times
+pub mod Degree
 pub mod Remainder
 pub mod Divisors
 pub mod Words
-pub mod DivisionSteps
-pub mod Messages
-pub mod Keys
-pub mod Pairs
-pub mod Trial
-pub mod BenOr
+-- residues modulo a polynomial, and the test of irreducible polynomials
 pub mod FieldLemmas
-pub mod Frobenius
 pub mod Roots
-pub mod Period
-pub mod Images
-pub mod Least
-pub mod EvaluationFamily
 pub mod Evaluate
-pub mod EvaluationLaw
-pub mod EvaluationMessage
+pub mod Images
+pub mod Frobenius
+pub mod Period
+pub mod Least
+pub mod BenOr
 pub mod Modulus
-pub mod ToeplitzFamily
-pub mod Act
+pub mod Trial
+-- families
+pub mod Keys
+-- division
+pub mod Messages
+pub mod DivisionSteps
+pub mod DivisionLaw
+pub mod DivisionFamily
+-- Toeplitz
 pub mod Bits
+pub mod Act
 pub mod Lfsr
-pub mod ToeplitzLaw
 pub mod ToeplitzMessage
 pub mod ToeplitzSteps
+pub mod ToeplitzLaw
+pub mod ToeplitzFamily
+-- evaluation
+pub mod EvaluationMessage
+pub mod EvaluationLaw
+pub mod EvaluationFamily

@@ -75,8 +75,8 @@ pub record Bad (n d p : ℕ) : Type 0 where
   pub divides : Divides (2 ^ n + p) d
 
 pub few_bad : (n m d : ℕ) → 1 ≤ n → 0 < d → degree d ≤ m → (ps : List ℕ) → Distinct ps → AllByRecursion (Bad n d) ps → length ps ≤ m / n
-few_bad n m d pos d-pos d-le ps dist bad =
-    (le-div_iff_mul-le pos).1 (le_trans (irreducible_divisors (λ p. 2 ^ n + p) (λ j k e. omega arith) n d d-pos ps dist each) d-le)
+few_bad n m d pos d_pos d_le ps dist bad =
+    (le-div_iff_mul-le pos).1 (le_trans (irreducible_divisors (λ p. 2 ^ n + p) (λ j k e. omega arith) n d d_pos ps dist each) d_le)
   where
     each : (p : ℕ) → p ∈ ps → Irreducible (2 ^ n + p) × (degree (2 ^ n + p) ≡ n) × Divides (2 ^ n + p) d
     each p m = let b = ∈_all (Bad n d) p ps bad m in (b.irreducible, word_degree n p b.word, b.divides)
