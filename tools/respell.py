@@ -1,8 +1,8 @@
 #!/usr/bin/env python3
 """Respells the repository's own names: definitions, lemmas and fields with dashes in snake case, types with dashes in upper camel case.
 
-usage: tools/respell.py          prints the names, what falls together, and what is left alone
-       tools/respell.py write    rewrites crates/*/{specs,proofs}/**/*.antt and the clauses of crates/*/src/**/*.rt
+usage: python3 tools/respell.py          prints the names, what falls together, and what is left alone
+       python3 tools/respell.py write    rewrites crates/*/{specs,proofs}/**/*.antt and the clauses of crates/*/src/**/*.rt
 
 Names that Rattle makes (goals, steps, fields of a step), names of the libraries, functions of src/, strings and comments stay, but for a name in
 backquotes in a comment.
