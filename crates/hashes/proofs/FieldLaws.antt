@@ -10,7 +10,7 @@ use Rattle.hashes.specs.Polynomial.{Divides, degree, gcd, remainder, times, time
 use Rattle.hashes.specs.Counting.{all_from_∈, ∈_all}
 use Rattle.hashes.specs.Divisors.{Common, gcd_common, irreducible_divisor, irreducible_pos, remainder_of_divides}
 use Rattle.hashes.specs.Evaluate.{Fit, evaluate, evaluate_sum}
-use Rattle.hashes.specs.FieldLemmas.{mod_assoc, mod_comm, mod-lt, mod_one_l, mod_rem_l, mod_xor_r, mod_zero_l}
+use Rattle.hashes.specs.FieldLemmas.{mod_assoc, mod_comm, mod_lt, mod_one_l, mod_rem_l, mod_xor_r, mod_zero_l}
 use Rattle.hashes.specs.Frobenius.{frobenius, frobenius_power, one_lt}
 use Rattle.hashes.specs.Period.{frobenius_degree}
 use Rattle.hashes.specs.Remainder.{remainder_add, remainder_lt, remainder_small}
@@ -52,7 +52,7 @@ module _ (f : ℕ) (irr : Irreducible f) where
     where
       small : (n : ℕ) → 0 < n → power f n y < 2 ^ degree f
       small zero k = absurd (lt_irrefl 0 k)
-      small (suc n) k = unfold power in mod-lt f pos (power f n y) y
+      small (suc n) k = unfold power in mod_lt f pos (power f n y) y
 
       go : (n : ℕ) → degree f ≡ n → power f (2 ^ degree f) y ≡ y
       go zero e = absurd (not-suc-le-zero (subst (λ (n : ℕ). 1 ≤ n) e irr.no_constant))
@@ -100,7 +100,7 @@ module _ (f : ℕ) (irr : Irreducible f) where
 
 pub residue_fields : ResidueFields
 residue_fields f irr = record {
-  closed = mod-lt f (irreducible_pos irr);
+  closed = mod_lt f (irreducible_pos irr);
   commutes = mod_comm f (irreducible_pos irr);
   associates = mod_assoc f (irreducible_pos irr);
   distributes = mod_xor_r f (irreducible_pos irr);

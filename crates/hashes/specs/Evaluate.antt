@@ -7,7 +7,7 @@ use Rattle.std.proofs.lemmas.Nat.{xor_lt}
 use Rattle.hashes.specs.Evaluation.{evaluation}
 use Rattle.hashes.specs.Field.{power, powers_sum}
 use Rattle.hashes.specs.Polynomial.{degree, times_mod}
-use Rattle.hashes.specs.FieldLemmas.{mod_assoc, mod_comm, mod-lt, mod_one_r, mod_xor_l}
+use Rattle.hashes.specs.FieldLemmas.{mod_assoc, mod_comm, mod_lt, mod_one_r, mod_xor_l}
 use Rattle.hashes.specs.Remainder.{remainder_small}
 use Rattle.std.specs.List.{AllByRecursion}
 
@@ -26,7 +26,7 @@ module _ (p : ℕ) (pos : 0 < p) where
   unfolding evaluate power powers_sum
   evaluate_sum a r [] h fit = sym (xor_zero_r (times_mod p r 1) ∙ mod_one_r p pos r ∙ remainder_small p pos r h)
   evaluate_sum a r (w ∷ ws) h fit =
-      evaluate_sum a (bit_xor (times_mod p r a) w) ws (xor_lt (degree p) (times_mod p r a) w (mod-lt p pos r a) fit.0) fit.1
+      evaluate_sum a (bit_xor (times_mod p r a) w) ws (xor_lt (degree p) (times_mod p r a) w (mod_lt p pos r a) fit.0) fit.1
       ∙ ap (λ (x : ℕ). bit_xor x (powers_sum p a ws)) (mod_xor_l p pos (times_mod p r a) w k)
       ∙ xor_assoc (times_mod p (times_mod p r a) k) (times_mod p w k) (powers_sum p a ws)
       ∙ ap (λ (x : ℕ). bit_xor x (bit_xor (times_mod p w k) (powers_sum p a ws)))

@@ -16,7 +16,7 @@ use Rattle.hashes.specs.Divisors.{irreducible_pos}
 use Rattle.hashes.specs.Evaluate.{Fit, evaluate, evaluation_horner}
 use Rattle.hashes.specs.EvaluationLaw.{evaluation_law}
 use Rattle.hashes.specs.EvaluationMessage.{length_words, message_words_cons, message_words_injective, message_words_lt, message_words_short}
-use Rattle.hashes.specs.FieldLemmas.{mod-lt}
+use Rattle.hashes.specs.FieldLemmas.{mod_lt}
 use Rattle.hashes.specs.Keys.{distinct_words, point_taken, zero_refused}
 use Rattle.hashes.specs.Modulus.{modulus_degree, modulus_irreducible}
 use Rattle.hashes.specs.Pairs.{map_∈}
@@ -83,7 +83,7 @@ evaluation_facts = record { formula = evaluation_formula; keys = λ key. point_t
 
 evaluation_lt : (a : ℕ) (ws : List ℕ) → evaluation modulus a ws < 2 ^ 64
 unfolding evaluation
-evaluation_lt a ws = subst (λ (n : ℕ). evaluation modulus a ws < 2 ^ n) modulus_degree (mod-lt modulus pos _ a)
+evaluation_lt a ws = subst (λ (n : ℕ). evaluation modulus a ws < 2 ^ n) modulus_degree (mod_lt modulus pos _ a)
 
 evaluation_words : (key m : List ℕ) → Key evaluation_family key → Bytes m → hash evaluation_family key m < 2 ^ 64
 evaluation_words key m k h = rw (evaluation_formula key m h) (evaluation_lt (word key) (message_words m))

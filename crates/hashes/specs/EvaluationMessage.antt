@@ -34,17 +34,17 @@ mark_at : (m : List ℕ) (i : ℕ) → slice_index (padded m) (length m + i) ≡
 unfolding mark
 mark_at m i = get_or-append-add m (0x80 ∷ replicate (7 - length m % 8) 0) i 0
 
-getD_zeros : (k i : ℕ) → ◌≡◌ {A = ℕ} (slice_index (replicate k 0) i) 0
-getD_zeros zero i = refl
-getD_zeros (suc k) zero = refl
-getD_zeros (suc k) (suc i) = getD_zeros k i
+slice_index_zeros : (k i : ℕ) → ◌≡◌ {A = ℕ} (slice_index (replicate k 0) i) 0
+slice_index_zeros zero i = refl
+slice_index_zeros (suc k) zero = refl
+slice_index_zeros (suc k) (suc i) = slice_index_zeros k i
 
 -- a message that is shorter by i + 1 bytes is padded to another string
 apart : (m n : List ℕ) (i : ℕ) → length n ≡ length m + suc i → padded m ≢ padded n
 unfolding mark
 apart m n i l e =
     let here : slice_index_or (padded n) (length n + 0) 0 ≡ 0x80 = mark_at n 0 in
-    let there : slice_index_or (padded m) (length m + suc i) 0 ≡ 0 = mark_at m (suc i) ∙ getD_zeros (7 - length m % 8) i in
+    let there : slice_index_or (padded m) (length m + suc i) 0 ≡ 0 = mark_at m (suc i) ∙ slice_index_zeros (7 - length m % 8) i in
     let same : slice_index_or (padded m) (length m + suc i) 0 ≡ slice_index_or (padded n) (length n + 0) 0 =
     ap₂ (λ (x : List ℕ) (j : ℕ). slice_index x j) e (omega (arith, l)) in
     absurd (omega (arith, here, there, same))

@@ -9,9 +9,9 @@ use Rattle.hashes.specs.Remainder.{remainder_lt, remainder_small, remainder_xor,
 use Rattle.hashes.specs.Divisors.{divides_of_remainder, remainder_of_divides, irreducible_pos, euclid}
 
 module _ (p : ℕ) (pos : 0 < p) where
-  pub mod-lt : (a b : ℕ) → times_mod p a b < 2 ^ degree p
+  pub mod_lt : (a b : ℕ) → times_mod p a b < 2 ^ degree p
   unfolding times_mod
-  mod-lt a b = remainder_lt p pos (times a b)
+  mod_lt a b = remainder_lt p pos (times a b)
 
   pub mod_comm : (a b : ℕ) → times_mod p a b ≡ times_mod p b a
   unfolding times_mod

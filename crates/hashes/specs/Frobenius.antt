@@ -12,7 +12,7 @@ use Rattle.hashes.specs.Xor.{xor_cancel, by_last, digit_cases}
 use Rattle.hashes.specs.Times.{times_one_l, times_dbl_l, times_comm}
 use Rattle.hashes.specs.Degree.{degree_one, degree_half}
 use Rattle.hashes.specs.Remainder.{remainder_small, remainder_xor}
-use Rattle.hashes.specs.FieldLemmas.{mod-lt, mod_comm, mod_assoc, mod_xor_l, mod_xor_r, mod_zero_l, mod_one_l, mod_one_r, mod_rem_l, mod_rem_r}
+use Rattle.hashes.specs.FieldLemmas.{mod_lt, mod_comm, mod_assoc, mod_xor_l, mod_xor_r, mod_zero_l, mod_one_l, mod_one_r, mod_rem_l, mod_rem_r}
 use Rattle.hashes.specs.Roots.{Polynomial, constant, next}
 
 -- a to the power 2 ^ k, modulo p
@@ -48,7 +48,7 @@ module _ (p : ℕ) (pos : 0 < p) where
   pub frobenius_lt : (k a : ℕ) → a < 2 ^ degree p → frobenius p k a < 2 ^ degree p
   unfolding frobenius
   frobenius_lt zero a h = h
-  frobenius_lt (suc k) a h = mod-lt p pos (frobenius p k a) (frobenius p k a)
+  frobenius_lt (suc k) a h = mod_lt p pos (frobenius p k a) (frobenius p k a)
 
   pub frobenius_add : (j k a : ℕ) → frobenius p (j + k) a ≡ frobenius p j (frobenius p k a)
   unfolding frobenius
@@ -143,13 +143,13 @@ module _ (p : ℕ) (pos : 0 < p) where
   power_add j zero y = mod_one_r p pos (power p j y) ∙ ap (λ (x : ℕ). remainder (power p x y) p) (sym (add-zero j))
   power_add j (suc k) y =
       sym (mod_assoc p pos (power p j y) (power p k y) y) ∙ ap (λ (x : ℕ). times_mod p x y) (power_add j k y) ∙ mod_rem_l p pos (power p (j + k) y) y
-      ∙ sym (remainder_small p pos (times_mod p (power p (j + k) y) y) (mod-lt p pos (power p (j + k) y) y))
+      ∙ sym (remainder_small p pos (times_mod p (power p (j + k) y) y) (mod_lt p pos (power p (j + k) y) y))
       ∙ ap (λ (x : ℕ). remainder (power p x y) p) (sym (add-suc j k))
 
   pub frobenius_power : (k y : ℕ) → frobenius p (suc k) y ≡ remainder (power p (2 ^ suc k) y) p
   unfolding frobenius
   frobenius_power zero y = unfold power in (sym (mod_rem_l p pos y y) ∙ ap (λ (x : ℕ). times_mod p x y) (sym (mod_one_l p pos y))
-      ∙ sym (remainder_small p pos (times_mod p (times_mod p 1 y) y) (mod-lt p pos (times_mod p 1 y) y)))
+      ∙ sym (remainder_small p pos (times_mod p (times_mod p 1 y) y) (mod_lt p pos (times_mod p 1 y) y)))
   frobenius_power (suc k) y =
       ap (λ (x : ℕ). times_mod p x x) (frobenius_power k y)
       ∙ mod_rem_l p pos (power p (2 ^ suc k) y) (remainder (power p (2 ^ suc k) y) p) ∙ mod_rem_r p pos (power p (2 ^ suc k) y) (power p (2 ^ suc k) y)

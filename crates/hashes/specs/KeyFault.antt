@@ -35,7 +35,7 @@ judged s (Some n) = refused n
 
 -- what opening a string answers: a string of another length is refused by 1
 abbrev pub opening : (M : Meaning) → List ℕ → Answer M.State
-opening M key = cond ((length key) == M.key_len) (judged (M.first key) (M.refusal key)) (refused 1)
+opening M key = cond (length key == M.key_len) (judged (M.first key) (M.refusal key)) (refused 1)
 
 -- an answer with its value turned into another
 abbrev pub answered : {A B : Type 0} → (A → B) → Answer A → Answer B

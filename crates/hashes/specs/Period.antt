@@ -16,7 +16,7 @@ use Rattle.hashes.specs.Xor.{xor_zero}
 use Rattle.hashes.specs.Times.{times_one_l}
 use Rattle.hashes.specs.Remainder.{remainder_lt, remainder_small, remainder_multiple}
 use Rattle.hashes.specs.Divisors.{irreducible_pos}
-use Rattle.hashes.specs.FieldLemmas.{mod-lt, mod_xor_l, mod_one_l, field_zero}
+use Rattle.hashes.specs.FieldLemmas.{mod_lt, mod_xor_l, mod_one_l, field_zero}
 use Rattle.hashes.specs.Roots.{Polynomial, constant, next, roots}
 use Rattle.hashes.specs.Images.{images, length_images, images_all, apart_or, all_apart}
 use Rattle.hashes.specs.Frobenius.{frobenius, at, square, square_xor, frobenius_lt, frobenius_add, at_rem, at_x, frobenius_at, frobenius_zero, at_polynomial, frobenius_power, one_lt}
@@ -122,7 +122,7 @@ module _ (p : ℕ) (irr : Irreducible p) where
 
   power_lt : (k y : ℕ) → power p (suc k) y < 2 ^ degree p
   unfolding power
-  power_lt k y = mod-lt p pos (power p k y) y
+  power_lt k y = mod_lt p pos (power p k y) y
 
   difference_root : (m k : ℕ) → 2 ^ suc m ≡ suc (suc k) → frobenius p (suc m) x ≡ x → (y : ℕ) → y < 2 ^ degree p → difference k y ≡ 0
   difference_root m k s e y h =

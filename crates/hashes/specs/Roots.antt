@@ -8,7 +8,7 @@ use Rattle.hashes.specs.Polynomial.{degree, times_mod}
 use Rattle.hashes.specs.Irreducible.{Irreducible}
 use Rattle.hashes.specs.Xor.{xor_zero, xor_swap, xor_cancel}
 use Rattle.hashes.specs.Divisors.{irreducible_pos}
-use Rattle.hashes.specs.FieldLemmas.{mod-lt, mod_comm, mod_assoc, mod_xor_l, mod_xor_r, field_zero}
+use Rattle.hashes.specs.FieldLemmas.{mod_lt, mod_comm, mod_assoc, mod_xor_l, mod_xor_r, field_zero}
 
 -- f is a polynomial function of degree n modulo p, by Horner's rule: the leading coefficient, not 0, and then the others
 pub data Polynomial (p : ℕ) : ℕ → (ℕ → ℕ) → Type 0 where
@@ -27,7 +27,7 @@ module _ (p : ℕ) (irr : Irreducible p) where
 
   pub values_lt : {n : ℕ} {f : ℕ → ℕ} → Polynomial p n f → (y : ℕ) → f y < 2 ^ degree p
   values_lt (constant c h k e) y = rw (e y) k
-  values_lt (next {f = f} c h k e) y = rw (e y) (xor_lt (degree p) (times_mod p (f y) y) c (mod-lt p pos (f y) y) k)
+  values_lt (next {f = f} c h k e) y = rw (e y) (xor_lt (degree p) (times_mod p (f y) y) c (mod_lt p pos (f y) y) k)
 
   -- (u + c) + (v + c) = u + v
   drop_constant : (u v c : ℕ) → bit_xor (bit_xor u c) (bit_xor v c) ≡ bit_xor u v

@@ -1,4 +1,5 @@
--- What the crate promises: the grammar, the reading as a function, and that the two agree.
+-- What the contracts cite: the grammar, the reading as a function, and that the two agree; calls and the promise on them; making an image; the
+-- answer to a whole input.
 pub mod Codes
 pub mod Grammar
 pub mod Reading

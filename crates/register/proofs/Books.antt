@@ -22,8 +22,8 @@ abbrev no_point : PointEntry
 no_point = record { declared = false }
 
 -- every element of n equal ones, and past the end
-pub getD_all : {X Y : Type 0} (x : X) (n i : ℕ) (f : X → Y) → f (get_or (replicate n x) i x) ≡ f x
-getD_all x n i f = ap f (same n i)
+pub get_or_all : {X Y : Type 0} (x : X) (n i : ℕ) (f : X → Y) → f (get_or (replicate n x) i x) ≡ f x
+get_or_all x n i f = ap f (same n i)
   where
     same : (n i : ℕ) → get_or (replicate n x) i x ≡ x
     same zero i = refl
@@ -32,7 +32,7 @@ getD_all x n i f = ap f (same n i)
 
 -- tables without declarations know what no records tell
 pub nothing_known : ◌≡◌ {A = Known} (record { zones = λ z. (get_or (replicate 251 no_zone) z no_zone).declared; points = λ p. (get_or (replicate 1001 no_point) p no_point).declared; bytes = 0 }) (known_of [])
-nothing_known = λ i. record { zones = λ z. getD_all no_zone 251 z (λ e. e.declared) i; points = λ p. getD_all no_point 1001 p (λ e. e.declared) i; bytes = 0 }
+nothing_known = λ i. record { zones = λ z. get_or_all no_zone 251 z (λ e. e.declared) i; points = λ p. get_or_all no_point 1001 p (λ e. e.declared) i; bytes = 0 }
 
 -- a test of every element
 pub all_passes : (p : ℕ → Bool) (xs : List ℕ) → ((k : ℕ) → k < length xs → p (get_or xs k 0) ≡ true) → all_that p xs ≡ true

@@ -4,7 +4,7 @@ use Rattle.hashes.specs.Family.{Meaning}
 use Rattle.hashes.specs.Word.{word}
 use Rattle.register.specs.declared.fault.RecordFault.{RecordFault}
 use Rattle.register.specs.declared.fault.ImageFault.{ImageFault}
-use Rattle.register.specs.declared.fault.ImageFault.TheVariants.{Record as Record-fault, Framing, Code}
+use Rattle.register.specs.declared.fault.ImageFault.TheVariants.{Record as FaultyRecord, Framing, Code}
 use Rattle.register.specs.declared.image.Field.{Field as Place}
 use Rattle.register.specs.Records.{Record, Field, field, bytes_of}
 use Rattle.register.specs.Fields.{is_record, record_in, next_field, is_seal}
@@ -148,12 +148,12 @@ module _ (image : List ℕ) (at : ℕ) (within : at ≤ length image) (f : Place
 
     -- the register refuses the record
     pub walk_refused : is_record (field f.tag (take f.length (drop f.place image))) ≡ true → (r : Record) → r ≡ record_in (field f.tag (take f.length (drop f.place image))) →
-        (u : View M) (x : RecordFault) → Err x ≡ answer M v r → Answers M key pad (check M.code image) (Err (Record-fault x, at)) u
+        (u : View M) (x : RecordFault) → Err x ≡ answer M v r → Answers M key pad (check M.code image) (Err (FaultyRecord x, at)) u
     unfolding value
     walk_refused q r s u x h =
         let row = call_refused M key pad w.before r v w.stands x h in
         let st = record_step q r s in
-        subst (λ o. Answers M key pad o (Err (Record-fault x, at)) u) (sym (st.2 ∙ ap (record_outcome at _) row)) (refl, refl)
+        subst (λ o. Answers M key pad o (Err (FaultyRecord x, at)) u) (sym (st.2 ∙ ap (record_outcome at _) row)) (refl, refl)
 
     -- the register takes it
     pub walk_taken : is_record (field f.tag (take f.length (drop f.place image))) ≡ true → (r : Record) → r ≡ record_in (field f.tag (take f.length (drop f.place image))) →
