@@ -3,7 +3,7 @@
 use crate::ffi;
 use independent::generate::keys::Keys;
 use independent::generate::{Random, sites};
-use independent::site::LONGEST_MESSAGE;
+use independent::site::{LONGEST_MESSAGE, PAD_LEN};
 use independent::{families, gf2, image, program};
 use std::hint::black_box;
 use std::io::{self, Write};
@@ -29,6 +29,8 @@ pub fn time(seed: u64) {
     set_ups(&mut random, &keys);
     hashes(&mut random, &keys);
     images(&mut random, &keys);
+    println!();
+    sealings(&mut random, &keys);
     println!();
     processes(&mut random, &keys);
 }
@@ -144,6 +146,28 @@ fn check_row(name: &str, code: u8, image: &[u8], buffer: &[u8]) {
     let library = || assert_eq!(ffi::check(code, &mut buffer.to_vec(), black_box(image)), 1);
     let independent = || assert_eq!(image::check(code, &mut buffer.to_vec(), black_box(image)), Ok(true));
     row(name, "ns/byte", image.len(), library, independent);
+}
+
+/// Times making the image of a text with the longest message beside the hash of that message and one copy of the image: what reading, cutting, parsing and
+/// writing cost on top.
+fn sealings(random: &mut Random, keys: &Keys) {
+    println!("ratio = make / (hash of the message at once + copy of the image), all of the library");
+    println!("{:>6}  {:>10}  {:>11}  {:<12}  row", "ratio", "make", "hash, copy", "unit");
+    let text = sites::mostly_rules(random, LONGEST_MESSAGE);
+    for (code, family) in FAMILIES {
+        let buffer = keys.buffer(random, code);
+        let key = &buffer[..buffer.len() - PAD_LEN];
+        let (mut out, mut copy) = (vec![0; 70_000], vec![0; 70_000]);
+        let length = image::make(code, &text, &mut buffer.clone(), &mut out).expect("the text is sound");
+        let made = out[..length].to_vec();
+        let message = &made[..length - image::SEAL_FIELD_LEN];
+        let make = || ffi::make(code, black_box(&text), &mut buffer.to_vec(), &mut out);
+        let parts = || {
+            copy[..length].copy_from_slice(black_box(&made));
+            ffi::hash(code, true, key, black_box(message), 0)
+        };
+        row(&format!("sealing, {family}, message of {} bytes", message.len()), "ns", 1, make, parts);
+    }
 }
 
 /// Times the whole program, from its start to its end, if it was built.

@@ -1,8 +1,10 @@
 -- Ben-Or's test is exact: a polynomial passes it if, and only if, it is irreducible.
-use Rattle.std.specs.Prelude.{◌≡◌, ℕ, zero, suc, ◌+◌, ◌*◌, ◌/◌, ◌<◌, ◌≤◌, Bool, true, false, ◌&&◌, T, ◌⊎◌, Decides, ◌==◌, bit_xor}
+use Rattle.std.specs.Prelude.{◌≡◌, ℕ, zero, suc, ◌+◌, ◌-◌, ◌*◌, ◌/◌, ◌<◌, ◌≤◌, Bool, true, ◌&&◌, ◌⊎◌, Decides, ◌==◌, bit_xor}
 use Rattle.std.proofs.Math.Path.{refl, sym, ap, subst}
-use Rattle.std.proofs.Common.{◌∙◌, inl, inr, zero-le, suc-le-suc, lt_irrefl, zero-lt-suc, eq-zero-or-pos, lt_of_lt_of_le, not-suc-le-zero, suc-add, add-suc, zero-add, add-zero, le_of_suc-le-suc, arith, eqb→eq}
+use Rattle.std.proofs.Common.{◌∙◌, inl, inr, zero-le, suc-le-suc, lt_irrefl, zero-lt-suc, eq-zero-or-pos, lt_of_lt_of_le, not-suc-le-zero, suc-add, add-suc, zero-add, add-zero, le_of_suc-le-suc, arith}
 use Rattle.std.proofs.Math.Decide.{dec_le, map_dec}
+use Rattle.std.proofs.lemmas.Bool.{and_parts, eq-eqb, eqb-true}
+use Rattle.std.specs.Cmp.Derive.{both_true}
 use Rattle.std.specs.Int.Bits.{xor_self}
 use Rattle.hashes.specs.Polynomial.{times, degree, remainder, Divides, gcd, times_mod}
 use Rattle.hashes.specs.Irreducible.{Irreducible}
@@ -24,6 +26,16 @@ coprime_turns p (suc k) y = let z = times_mod p y y in (gcd p (bit_xor z 2) == 1
 -- p, no constant, has no factor in common with x^(2^i) + x for any i from 1 to half its degree
 unfoldable pub ben_or : ℕ → Bool
 ben_or p = coprime_turns p (degree p / 2) 2
+
+-- the first turn of those from i to n
+pub first_turn : (p n i y : ℕ) → i < n
+    → coprime_turns p (n - i) y ≡ ((gcd p (bit_xor (times_mod p y y) 2) == 1) && coprime_turns p (n - (i + 1)) (times_mod p y y))
+unfolding coprime_turns
+first_turn p n i y h = let e : n - i ≡ suc (n - (i + 1)) = omega arith in rw e
+
+pub no_turn : (p n i y : ℕ) → n ≤ i → coprime_turns p (n - i) y ≡ true
+unfolding coprime_turns
+no_turn p n i y h = let e : n - i ≡ 0 = omega arith in rw e
 
 -- ---- degrees
 
@@ -174,51 +186,42 @@ passes_irreducible p h test = record { no_constant = h; no_divisor = split }
 
 -- ---- the test as it computes
 
-both : (a b : Bool) → T (a && b) → T a × T b
-both true b t = (tt, t)
-both false b t = absurd t
-
-pair : (a b : Bool) → T a → T b → T (a && b)
-pair true b s t = t
-pair false b s t = absurd s
-
-turns_all : (p k j : ℕ) → T (coprime_turns p k (frobenius p j 2)) → (i : ℕ) → i < k → gcd p (bit_xor (frobenius p (suc (i + j)) 2) 2) ≡ 1
+turns_all : (p k j : ℕ) → coprime_turns p k (frobenius p j 2) ≡ true → (i : ℕ) → i < k → gcd p (bit_xor (frobenius p (suc (i + j)) 2) 2) ≡ 1
 unfolding frobenius coprime_turns
 turns_all p zero j t i h = absurd (not-suc-le-zero h)
-turns_all p (suc k) j t zero h =
-    rw (zero-add j) (eqb→eq (gcd p (bit_xor (frobenius p (suc j) 2) 2)) 1 (both _ (coprime_turns p k (frobenius p (suc j) 2)) t).0)
+turns_all p (suc k) j t zero h = rw (zero-add j) (eqb-true (gcd p (bit_xor (frobenius p (suc j) 2) 2)) 1 (and_parts _ _ t).0)
 turns_all p (suc k) j t (suc i) h =
     subst (λ (n : ℕ). gcd p (bit_xor (frobenius p (suc n) 2) 2) ≡ 1) (add-suc i j ∙ sym (suc-add i j))
-    (turns_all p k (suc j) (both (gcd p (bit_xor (frobenius p (suc j) 2) 2) == 1) _ t).1 i (le_of_suc-le-suc h))
+    (turns_all p k (suc j) (and_parts _ _ t).1 i (le_of_suc-le-suc h))
 
-all_turns : (p k j : ℕ) → ((i : ℕ) → i < k → gcd p (bit_xor (frobenius p (suc (i + j)) 2) 2) ≡ 1) → T (coprime_turns p k (frobenius p j 2))
+all_turns : (p k j : ℕ) → ((i : ℕ) → i < k → gcd p (bit_xor (frobenius p (suc (i + j)) 2) 2) ≡ 1) → coprime_turns p k (frobenius p j 2) ≡ true
 unfolding frobenius coprime_turns
-all_turns p zero j h = tt
+all_turns p zero j h = refl
 all_turns p (suc k) j h =
-    pair (gcd p (bit_xor (frobenius p (suc j) 2) 2) == 1) (coprime_turns p k (frobenius p (suc j) 2))
-    (subst (λ (g : ℕ). T (g == 1)) (sym (subst (λ (n : ℕ). gcd p (bit_xor (frobenius p (suc n) 2) 2) ≡ 1) (zero-add j) (h 0 (zero-lt-suc k)))) tt)
+    both_true (eq-eqb (gcd p (bit_xor (frobenius p (suc j) 2) 2)) 1 (subst (λ (n : ℕ). gcd p (bit_xor (frobenius p (suc n) 2) 2) ≡ 1) (zero-add j) (h 0 (zero-lt-suc k))))
     (all_turns p k (suc j) (λ i l.
     subst (λ (n : ℕ). gcd p (bit_xor (frobenius p (suc n) 2) 2) ≡ 1) (suc-add i j ∙ sym (add-suc i j)) (h (suc i) (suc-le-suc l))))
 
-ben_or_all : (p : ℕ) → T (ben_or p) → BenOr p
+ben_or_all : (p : ℕ) → ben_or p ≡ true → BenOr p
 unfolding ben_or
 ben_or_all p t zero one half = absurd (lt_irrefl 0 one)
 ben_or_all p t (suc i) one half =
     subst (λ (j : ℕ). gcd p (bit_xor (frobenius p (suc j) 2) 2) ≡ 1) (add-zero i)
     (turns_all p (degree p / 2) 0 (unfold frobenius in t) i (omega arith))
 
-all_ben_or : (p : ℕ) → BenOr p → T (ben_or p)
+all_ben_or : (p : ℕ) → BenOr p → ben_or p ≡ true
 unfolding ben_or
 all_ben_or p h =
     unfold frobenius in all_turns p (degree p / 2) 0
     (λ i l. subst (λ (j : ℕ). gcd p (bit_xor (frobenius p (suc j) 2) 2) ≡ 1) (sym (add-zero i)) (h (suc i) (suc-le-suc zero-le) (omega arith)))
 
-T_true : (b : Bool) → T b → b ≡ true
-T_true true t = refl
-T_true false t = absurd t
-
 pub ben_or_decides : (p : ℕ) → 1 ≤ degree p → Decides (ben_or p) (Irreducible p)
 ben_or_decides p h = (
-  λ e. passes_irreducible p h (ben_or_all p (subst T (sym e) tt)),
-  λ irr. T_true (ben_or p) (all_ben_or p (irreducible_passes irr)),
+  λ e. passes_irreducible p h (ben_or_all p e),
+  λ irr. all_ben_or p (irreducible_passes irr),
 )
+
+-- the same of the turns that the test does
+pub turns_decide : (p n : ℕ) → 1 ≤ degree p → degree p / 2 ≡ n → Decides (coprime_turns p n 2) (Irreducible p)
+unfolding ben_or
+turns_decide p n h e = rw (← e) (ben_or_decides p h)

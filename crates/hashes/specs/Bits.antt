@@ -1,9 +1,10 @@
 -- Words by their bits.
-use Rattle.std.specs.Prelude.{◌≡◌, ℕ, zero, suc, ◌+◌, ◌-◌, ◌*◌, ◌/◌, ◌%◌, ◌^◌, ◌<◌, ◌⊎◌, bit_and, refl}
-use Rattle.std.proofs.Common.{sym, ap, ap₂, ◌∙◌, inl, inr, zero-le, suc-le-suc, zero-mul, one-mul, mod-lt, zero-lt-suc, div-one, pow-suc, mul_assoc, div-lt_iff_lt-mul, arith, shr-shr, pow-add}
+use Rattle.std.specs.Prelude.{◌≡◌, ℕ, suc, ◌+◌, ◌-◌, ◌*◌, ◌/◌, ◌%◌, ◌^◌, ◌<◌, ◌⊎◌, bit_and, refl}
+use Rattle.std.proofs.Common.{sym, ap, ap₂, ◌∙◌, inl, inr, zero-mul, one-mul, mod-lt, zero-lt-suc, div-one, pow-suc, mul_assoc, div-lt_iff_lt-mul, arith, shr-shr, pow-add}
 use Rattle.std.proofs.Math.Nat.{zero-div, div-eq_of_lt}
-use Rattle.std.proofs.Math.Arith.{bin_ind, lt-one}
+use Rattle.std.proofs.Math.Arith.{bin_ind}
 use Rattle.std.proofs.lemmas.Nat.{shl-shr, xor_shr, and_shr, and_mod}
+use Rattle.std.proofs.lemmas.Nat.Bits.{same_from_bits_below}
 use Rattle.std.specs.Int.Bits.{bit_xor, shifted_even}
 use Rattle.std.specs.Int.Count.{ones, ones_step}
 use Rattle.hashes.specs.Toeplitz.{bit, parity}
@@ -101,11 +102,8 @@ half_lt n a h = (div-lt_iff_lt-mul (zero-lt-suc 1)).1 (rw (← pow-suc 2 n) h)
 
 -- words are equal where all their bits are
 pub same_bits : (n a b : ℕ) → a < 2 ^ n → b < 2 ^ n → ((i : ℕ) → i < n → bit a i ≡ bit b i) → a ≡ b
-same_bits zero a b h k e = lt-one h ∙ sym (lt-one k)
-same_bits (suc n) a b h k e =
-    by_halves a b
-    (same_bits n (a / 2) (b / 2) (half_lt n a h) (half_lt n b k) (λ i l. bit_half a i ∙ e (suc i) (suc-le-suc l) ∙ sym (bit_half b i)))
-    (sym (bit_zero a) ∙ e 0 (suc-le-suc zero-le) ∙ bit_zero b)
+unfolding bit
+same_bits n a b h k e = same_from_bits_below n a b h k e
 
 -- the parity of the bits that two words share, by their last bits
 pub parity_and_step : (a b : ℕ) → parity (bit_and a b) ≡ bit_xor (bit_and (a % 2) (b % 2)) (parity (bit_and (a / 2) (b / 2)))

@@ -3,7 +3,7 @@ use Rattle.std.specs.Prelude.{◌≡◌, ℕ, zero, suc, ◌+◌, ◌-◌, ◌*�
 use Rattle.std.proofs.Common.{sym, ap, ap₂, ◌∙◌, inl, inr, add-zero, add-suc, suc-add, zero-add, mod-eq_of_lt, zero-mul, one-mul, not-suc-le-zero, sub-one, arith, length-append}
 use Rattle.std.proofs.lemmas.Nat.{xor_comm, and_mask}
 use Rattle.std.specs.Int.Bits.{xor_assoc, xor_zero_r, xor_shifted, or_shifted_r, shifted_half}
-use Rattle.hashes.specs.Toeplitz.{bit, parity, lfsr, state, bits, byte_bits, message_bits, chosen, toeplitz}
+use Rattle.hashes.specs.Toeplitz.{ToeplitzState, bit, parity, lfsr, state, bits, byte_bits, message_bits, chosen, toeplitz, toeplitz_state}
 use Rattle.hashes.specs.Xor.{half_xor, digit_cases}
 use Rattle.hashes.specs.Bits.{half_lt, parity_lt, digit_lt}
 use Rattle.hashes.specs.Lfsr.{state_add}
@@ -102,6 +102,22 @@ pub run_done : (n p w a b i X Y : ℕ) → i ≤ 0 → (state n p w i ≡ X) × 
 unfolding state chosen bits
 run_done n p w a b zero X Y l h = (h.0, sym (xor_zero_r a) ∙ h.1)
 run_done n p w a b (suc i) X Y l h = absurd (not-suc-le-zero l)
+
+-- the state after the i lowest bits of a byte, the highest of them first
+abbrev pub after_bits : ToeplitzState → ℕ → ℕ → ToeplitzState
+after_bits r i b = toeplitz_state r.taps (state 64 r.taps r.register i) (bit_xor r.total (chosen 64 r.taps r.register 0 (bits i b)))
+
+-- the first of them: where it is one, it chooses the register
+pub after_first_bit : (r : ToeplitzState) (b i : ℕ) → 0 < i
+    → after_bits (toeplitz_state r.taps (lfsr 64 r.taps r.register) (bit_xor r.total (bit_and (b / 2 ^ (i - 1)) 1 * r.register))) (i - 1) b ≡ after_bits r i b
+unfolding bit
+after_first_bit r b i pos =
+    let first = ap (λ (x : ℕ). bit_xor r.total (x * r.register)) (and_mask (b / 2 ^ (i - 1)) 1) in
+    let h = run_again 64 r.taps r.register _ r.total _ b i _ _ pos refl first (refl, refl) in
+    ap₂ (toeplitz_state r.taps) h.0 h.1
+
+pub after_no_bits : (r : ToeplitzState) (b i : ℕ) → i ≤ 0 → after_bits r i b ≡ r
+after_no_bits r b i none = let h = run_done 64 r.taps r.register r.total b i _ _ none (refl, refl) in sym (ap₂ (toeplitz_state r.taps) h.0 h.1)
 
 -- ---- no bit
 

@@ -2,16 +2,12 @@
 use Rattle.std.specs.Prelude.{◌≡◌, ℕ, zero, suc, ◌+◌, ◌-◌, ◌^◌, ◌<◌, ◌≤◌, Bool, true, false, not, ◌&&◌, ◌≢◌, ◌⊎◌, Decides, ◌==◌, nat_eq, nat_lt, refl}
 use Rattle.std.proofs.Common.{inl, inr, sym, ap, ap₂, ◌∙◌, subst, eq-or-lt_of_le, le_of_suc-le-suc, le_refl, not-suc-le-zero, arith}
 use Rattle.std.proofs.Math.Nat.{le_step}
-use Rattle.std.proofs.lemmas.Bool.{eq-eqb, lt-ltb, ltb-true, ne_eqb}
+use Rattle.std.proofs.lemmas.Bool.{and_parts, eq-eqb, lt-ltb, ltb-true, ne_eqb}
 use Rattle.hashes.specs.Irreducible.{Irreducible, irreducible_by_trial, none_divides}
 use Rattle.hashes.specs.Polynomial.{Divides, degree, remainder}
 use Rattle.hashes.specs.BenOr.{degree_pos, pos_degree}
 use Rattle.hashes.specs.Degree.{degree_lt, lt_degree}
 use Rattle.hashes.specs.Divisors.{divides_of_remainder, remainder_of_divides}
-
-both : (a b : Bool) → (a && b) ≡ true → (a ≡ true) × (b ≡ true)
-both true b e = (refl, e)
-both false b e = absurd (let z : ◌≡◌ {A = ℕ} 0 1 = cc in omega arith)
 
 -- ---- every one of the k polynomials from x on
 
@@ -21,13 +17,13 @@ tried p zero e j h z = not-suc-le-zero h
 tried p (suc k) e j h z = go (tried p k b.1) (eq-or-lt_of_le (le_of_suc-le-suc h))
   where
     b : (not (remainder p (k + 2) == 0) ≡ true) × (none_divides p k ≡ true)
-    b = both (not (remainder p (k + 2) == 0)) (none_divides p k) e
+    b = and_parts (not (remainder p (k + 2) == 0)) (none_divides p k) e
 
     go : ((j : ℕ) → j < k → remainder p (j + 2) ≢ 0) → (j ≡ k) ⊎ (j < k) → ⊥
     go rest (inl s) =
         let f : nat_eq (remainder p (k + 2)) 0 ≡ true = eq-eqb (remainder p (k + 2)) 0 (subst (λ (i : ℕ). remainder p (i + 2) ≡ 0) s z) in
         let w : ◌≡◌ {A = Bool} false true = sym (ap not f) ∙ b.0 in
-        absurd (let n : ◌≡◌ {A = ℕ} 0 1 = cc in omega arith)
+        cc
     go rest (inr l) = rest j l z
 
 untried : (p k : ℕ) → ((j : ℕ) → j < k → remainder p (j + 2) ≢ 0) → none_divides p k ≡ true
@@ -43,7 +39,7 @@ trial_decides p = (passes, irreducible)
     passes e = record { no_constant = ltb-true 0 (degree p) b.0; no_divisor = none }
       where
         b : (nat_lt 0 (degree p) ≡ true) × (none_divides p (2 ^ degree p - 2) ≡ true)
-        b = both (nat_lt 0 (degree p)) (none_divides p (2 ^ degree p - 2)) e
+        b = and_parts (nat_lt 0 (degree p)) (none_divides p (2 ^ degree p - 2)) e
 
         none : (d : ℕ) → 1 ≤ degree d → degree d < degree p → Divides d p → ⊥
         none d one low div =

@@ -1,13 +1,12 @@
 // The division hash: the message's polynomial times x^64, modulo the polynomial x^64 + p.
-ghost use Rattle.std.specs.Prelude.{◌≡◌, ℕ, ◌*◌, ◌/◌, ◌%◌, ◌^◌, ◌<◌, bit_xor, slice_index};
-ghost use Rattle.hashes.specs.Division.{DivisionFacts, division, division_family, division_hash, division_state};
-ghost use Rattle.hashes.specs.Family.{absorbed};
+ghost use Rattle.std.specs.Prelude.{◌≡◌, ℕ, ◌*◌, ◌/◌, ◌%◌, ◌^◌, ◌<◌, bit_xor, fold, slice_index};
+ghost use Rattle.hashes.specs.Division.{DivisionFacts, division, division_family, division_hash, division_state, division_step};
 ghost use Rattle.hashes.specs.DivisionFamily.{division_lawful};
 
 use crate::family::Family;
 use crate::irreducible::is_irreducible;
 use crate::key_fault::KeyFault;
-use crate::polynomial::double;
+use crate::polynomial::multiples;
 use crate::word::word_of;
 
 // The family's code, and how many bytes a key has.
@@ -25,44 +24,36 @@ struct Table {
 }
 
 impl Table {
-    // Entry 2i is entry i times x, and entry 2i + 1 differs from it by x^64, which is p.
+    // t x^64 is t times p, since x^64 is p modulo x^64 + p.
+    #[tactic(auto, using(crate::specs::Words::division_word))]
     fn new(p: u64) -> Table
         ensures { result.p ≡ p }
     {
-        let mut words = [0u64; 256];
-        for i in 0..128usize {
-            let even = double(words[i], p);
-            words[2 * i] = even;
-            words[2 * i + 1] = even ^ p;
-        }
+        let words = multiples(p, p);
         Table { p, words }
     }
 
-    // One lookup: the entry at the remainder's top byte and the new one is added to the other bytes, moved up by one.
-    fn step(&self, rest: u64, byte: u8) -> u64
-        ensures { result ≡ bit_xor (rest * 2 ^ 8 % 2 ^ 64) (slice_index self.now.words (bit_xor (rest / 2 ^ 56) byte)) }
+    // What a byte adds to a remainder: the entry at the remainder's top byte and the new one.
+    fn entry(&self, rest: u64, byte: u8) -> u64
+        ensures { result ≡ division 64 self.now.p (bit_xor (rest / 2 ^ 56) byte) }
     {
-        (rest << 8) ^ self.words[place(rest, byte)]
+        self.words[(rest >> 56) as usize ^ usize::from(byte)]
+    }
+
+    // The remainder moved on by one byte, with one lookup. The other bytes are moved up by one.
+    #[tactic(auto, using(crate::specs::DivisionSteps::division_lookup))]
+    fn step(&self, rest: u64, byte: u8) -> u64
+        ensures { result ≡ division_step self.now.p rest byte }
+    {
+        (rest << 8) ^ self.entry(rest, byte)
     }
 
     // The remainder moved on by each byte of a part.
     fn absorb(&self, rest: u64, part: &[u8]) -> u64
-        ensures moves { division_state self.now.p result ≡ absorbed division_family (division_state self.now.p rest) part.now }
-        ensures hashes { rest ≡ self.now.p → result ≡ division_hash rest part.now }
+        ensures { result ≡ fold (division_step self.now.p) rest part.now }
     {
-        let mut sum = rest;
-        for b in part {
-            sum = self.step(sum, *b);
-        }
-        sum
+        part.iter().fold(rest, |rest, b| self.step(rest, *b))
     }
-}
-
-// Where the entry stands that a byte adds to a remainder.
-fn place(rest: u64, byte: u8) -> usize
-    ensures { result ≡ bit_xor (rest / 2 ^ 56) byte }
-{
-    (rest >> 56) as usize ^ byte as usize
 }
 
 #[derive(Drop)]
@@ -87,9 +78,7 @@ impl Family for Division {
     }
 
     fn open(key: &[u8]) -> Result<Division, KeyFault> {
-        let Some(p) = word_of(key) else {
-            return Err(KeyFault::Length);
-        };
+        let p = word_of(key).ok_or(KeyFault::Length)?;
         if !is_irreducible(p) {
             return Err(KeyFault::Reducible);
         }
@@ -99,9 +88,9 @@ impl Family for Division {
         })
     }
 
+    #[tactic(auto, using(crate::specs::DivisionFamily::division_absorbed))]
     fn absorb(&mut self, part: &[u8]) {
-        let Division { table, rest } = self;
-        *rest = table.absorb(*rest, part);
+        self.rest = self.table.absorb(self.rest, part);
     }
 
     fn digest(&mut self) -> u64 {
@@ -110,6 +99,7 @@ impl Family for Division {
 }
 
 // The division hash of a whole message, for any word p, a key or not. The remainder of the leading one alone is p.
+#[tactic(auto, using(crate::specs::DivisionSteps::division_run, crate::specs::Bytes::typed_bytes))]
 pub fn division_hash(p: u64, message: &[u8]) -> u64
     ensures { result ≡ division_hash p message.now }
 {
@@ -117,6 +107,7 @@ pub fn division_hash(p: u64, message: &[u8]) -> u64
 }
 
 // The family's hash is the formula, and its keys are the irreducible polynomials.
+#[tactic(auto, using(crate::specs::DivisionFamily::division_facts))]
 pub fn division_facts()
     ensures { DivisionFacts }
 {}

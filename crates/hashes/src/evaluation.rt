@@ -1,15 +1,17 @@
 // The evaluation hash: the message's words as the coefficients of a polynomial, evaluated at the key's point.
-ghost use Rattle.std.specs.Prelude.{◌≡◌, ℕ, ◌*◌, ◌/◌, ◌%◌, ◌^◌, ◌<◌, length, take, slice_index};
-ghost use Rattle.hashes.specs.Evaluation.{EvaluationFacts, evaluation_close, evaluation_family, evaluation_hash, evaluation_next, evaluation_state, modulus, padded};
+ghost use Rattle.std.specs.Prelude.{◌≡◌, ℕ, ◌*◌, ◌/◌, ◌%◌, ◌^◌, ◌<◌, [], length, slice_index, slice_index_or};
+ghost use Rattle.hashes.specs.Evaluation.{EvaluationFacts, EvaluationState, evaluation_family, evaluation_hash, evaluation_state, modulus, padded, with_word};
 ghost use Rattle.hashes.specs.Family.{absorbed};
 ghost use Rattle.hashes.specs.Polynomial.{times_mod};
 ghost use Rattle.hashes.specs.Word.{word};
 ghost use Rattle.hashes.specs.EvaluationFamily.{evaluation_lawful};
 
 use crate::family::Family;
+use crate::held::Held;
 use crate::key_fault::KeyFault;
-use crate::polynomial::double;
-use crate::word::{join, word_of};
+use crate::polynomial::{double, multiples};
+use crate::word::word_of;
+use std::marker::Model;
 
 // The family's code, and how many bytes a key has.
 const CODE: u8 = 3;
@@ -19,131 +21,152 @@ const KEY_LEN: usize = 8;
 // The low word of the modulus x^64 + x^4 + x^3 + x + 1.
 const MODULUS: u64 = 0x1B;
 
-// For each half byte d at each place j, d x^(4j) times the point: entry 16 j + d.
+// The multiples of a point by half bytes: row j has d x^(4j) times the point at place d.
 #[derive(Drop)]
 struct Multiples {
     point: u64,
-    words: [u64; 256],
-    ghost filled: { (i : ℕ) → i < 256 → slice_index words i ≡ times_mod modulus (i % 16 * 2 ^ (4 * (i / 16))) point },
+    rows: [[u64; 16]; 16],
+    ghost filled: { (j d : ℕ) → j < 16 → d < 16 → slice_index (slice_index_or rows j []) d ≡ times_mod modulus (d * 2 ^ (4 * j)) point },
 }
 
 impl Multiples {
-    // The first row by doubling and adding, and each later row from the one before it.
+    // The first row has the multiples by half bytes themselves, and each later row is made from the one before it.
     fn new(point: u64) -> Multiples
         ensures { result.point ≡ point }
     {
-        let mut words = [0u64; 256];
-        for d in 0..8usize {
-            let even = double(words[d], MODULUS);
-            words[2 * d] = even;
-            words[2 * d + 1] = even ^ point;
+        let mut row = multiples(point, MODULUS);
+        let mut rows = [row; 16];
+        for next in &mut rows[1..] {
+            row_up(&mut row);
+            *next = row;
         }
-        for i in 16..256usize {
-            words[i] = half_byte_up(words[i - 16]);
-        }
-        Multiples { point, words }
+        Multiples { point, rows }
     }
 
     // v times the point: one lookup for each half byte of v.
     fn times(&self, v: u64) -> u64
         ensures { result ≡ times_mod modulus v self.now.point }
     {
-        let mut sum: u64 = 0;
-        for j in 0..16usize {
-            sum ^= self.words[16 * j + ((v >> (4 * j)) % 16) as usize];
+        let mut sum = 0;
+        let mut rest = v;
+        for row in &self.rows {
+            sum ^= row[(rest % 16) as usize];
+            rest >>= 4;
         }
         sum
     }
+
+    // The value times the point, and the next word.
+    fn with_word(&self, value: u64, word: u64) -> u64
+        ensures { result ≡ with_word self.now.point value word }
+    {
+        self.times(value) ^ word
+    }
+}
+
+// x^4 times each word of a row.
+fn row_up(row: &mut [u64; 16])
+    ensures { (d : ℕ) → d < 16 → slice_index row.new d ≡ times_mod modulus 16 (slice_index row.old d) }
+{
+    for a in row {
+        *a = half_byte_up(*a);
+    }
+}
+
+// x times a.
+#[tactic(auto, using(crate::proofs::EvaluationSteps::doubled_word))]
+fn bit_up(a: u64) -> u64
+    ensures { result ≡ times_mod modulus 2 a }
+{
+    double(a, MODULUS)
 }
 
 // x^4 times a.
+#[tactic(auto, using(crate::proofs::EvaluationSteps::multiple_even))]
 fn half_byte_up(a: u64) -> u64
     ensures { result ≡ times_mod modulus 16 a }
 {
-    let mut b = a;
-    for i in 0..4u32 {
-        b = double(b, MODULUS);
-    }
-    b
+    bit_up(bit_up(bit_up(bit_up(a))))
 }
 
 #[derive(Drop)]
 pub struct Evaluation {
     multiples: Multiples,
     value: u64,
-    held: [u8; 8],
-    len: usize,
-    ghost short: { len < 8 },
+    pending: Held<8>,
+}
+
+// Clauses see the state between two bytes.
+impl Model for Evaluation {
+    ghost Value = { EvaluationState };
+
+    ghost view = { λ e. evaluation_state e.multiples.point e.value e.pending };
+
+    ghost invariant = { λ e. length e.pending < 8 };
 }
 
 impl Evaluation {
     // No byte has been taken in yet. Any point will do.
     fn new(point: u64) -> Evaluation
-        ensures { (result.multiples.point ≡ point) × (result.value ≡ 1) × (result.len ≡ 0) }
+        ensures { result ≡ evaluation_state point 1 [] }
     {
         Evaluation {
             multiples: Multiples::new(point),
             value: 1,
-            held: [0; 8],
-            len: 0,
+            pending: Held::new(),
         }
     }
 
-    // Takes in one byte.
-    fn take_byte(&mut self, byte: u8)
-        ensures { evaluation_state self.new.multiples.point self.new.value (take self.new.len self.new.held)
-            ≡ evaluation_next (evaluation_state self.old.multiples.point self.old.value (take self.old.len self.old.held)) byte }
-    {
-        self.held[self.len] = byte;
-        if self.len == 7 {
-            self.value = self.multiples.times(self.value) ^ u64::from_be_bytes(self.held);
-            self.len = 0;
-        } else {
-            self.len += 1;
-        }
-    }
-
-    // Takes in a whole word where no byte is held.
-    fn take_word(&mut self, bytes: &[u8])
-        requires { (self.old.len ≡ 0) × (length bytes.now ≡ 8) }
-        ensures { evaluation_state self.new.multiples.point self.new.value (take self.new.len self.new.held)
-            ≡ absorbed evaluation_family (evaluation_state self.old.multiples.point self.old.value (take self.old.len self.old.held)) bytes.now }
-    {
-        let word = u64::from_be_bytes([
-            bytes[0], bytes[1], bytes[2], bytes[3], bytes[4], bytes[5], bytes[6], bytes[7],
-        ]);
-        self.value = self.multiples.times(self.value) ^ word;
-    }
-
-    // Takes in a part, in whole words where it can.
+    // Takes in a part: what finishes the word under way, and what comes after it.
+    #[tactic(auto, using(crate::proofs::EvaluationSteps::bytes_held))]
     fn take_part(&mut self, part: &[u8])
-        ensures hashes { self.old.value ≡ 1 → self.old.len ≡ 0
-            → evaluation_close (evaluation_state self.new.multiples.point self.new.value (take self.new.len self.new.held))
-            ≡ evaluation_hash self.old.multiples.point part.now }
-        ensures moves { evaluation_state self.new.multiples.point self.new.value (take self.new.len self.new.held)
-            ≡ absorbed evaluation_family (evaluation_state self.old.multiples.point self.old.value (take self.old.len self.old.held)) part.now }
+        ensures { self.new ≡ absorbed evaluation_family self.old part.now }
     {
-        let mut i = 0;
-        while i < part.len() {
-            if self.len == 0 && part.len() - i >= 8 {
-                self.take_word(&part[i..i + 8]);
-                i += 8;
-            } else {
-                self.take_byte(part[i]);
-                i += 1;
-            }
-        }
+        // A part that does not finish the word is held.
+        let Some((first, rest)) = part.split_at_checked(self.pending.room()) else {
+            self.pending.extend(part);
+            return;
+        };
+        self.pending.extend(first);
+        let word = u64::from_be_bytes(*self.pending.as_array());
+        self.value = self.multiples.with_word(self.value, word);
+        self.pending.clear();
+        self.take_words(rest);
     }
 
-    // The last word: the bytes held, 80, and then 00.
-    fn last_word(&self) -> u64
-        ensures { result ≡ word (padded (take self.now.len self.now.held)) }
+    // Takes in whole words, and the bytes after them, where no byte is pending.
+    fn take_words(&mut self, part: &[u8])
+        requires { self.old.pending ≡ [] }
+        ensures { self.new ≡ absorbed evaluation_family self.old part.now }
     {
-        let mut last = self.held;
-        last[self.len] = 0x80;
-        for i in self.len + 1..8 {
-            last[i] = 0;
+        let (words, rest) = part.as_chunks::<8>();
+        for bytes in words {
+            self.take_word(bytes);
         }
+        self.pending.extend(rest);
+    }
+
+    // Takes in a whole word, where no byte is pending.
+    #[tactic(auto, using(crate::proofs::EvaluationSteps::word_taken, crate::specs::Bytes::word8))]
+    fn take_word(&mut self, bytes: &[u8; 8])
+        requires { self.old.pending ≡ [] }
+        ensures moves { self.new ≡ absorbed evaluation_family self.old bytes.now }
+        ensures whole { self.new.pending ≡ [] }
+    {
+        self.value = self
+            .multiples
+            .with_word(self.value, u64::from_be_bytes(*bytes));
+    }
+
+    // The last word: the bytes pending, 80, and then 00.
+    #[tactic(auto, using(crate::proofs::EvaluationSteps::marked, crate::specs::Bytes::word8, crate::specs::EvaluationMessage::length_padded))]
+    fn last_word(&self) -> u64
+        ensures { result ≡ word (padded self.now.pending) }
+    {
+        let pending = self.pending.as_slice();
+        let mut last = [0; 8];
+        last[..pending.len()].copy_from_slice(pending);
+        last[pending.len()] = 0x80;
         u64::from_be_bytes(last)
     }
 }
@@ -151,7 +174,7 @@ impl Evaluation {
 impl Family for Evaluation {
     ghost meaning = { evaluation_family };
 
-    ghost state = { λ e. evaluation_state e.multiples.point e.value (take e.len e.held) };
+    ghost state = { λ e. e };
 
     ghost lawful = { evaluation_lawful };
 
@@ -164,9 +187,7 @@ impl Family for Evaluation {
     }
 
     fn open(key: &[u8]) -> Result<Evaluation, KeyFault> {
-        let Some(point) = word_of(key) else {
-            return Err(KeyFault::Length);
-        };
+        let point = word_of(key).ok_or(KeyFault::Length)?;
         if point == 0 {
             return Err(KeyFault::Zero);
         }
@@ -178,12 +199,13 @@ impl Family for Evaluation {
     }
 
     fn digest(&mut self) -> u64 {
-        let value = self.multiples.times(self.value) ^ self.last_word();
+        let value = self.multiples.with_word(self.value, self.last_word());
         self.multiples.times(value)
     }
 }
 
 // The evaluation hash of a whole message, at any point.
+#[tactic(auto, using(crate::specs::EvaluationFamily::evaluation_whole, crate::specs::Bytes::typed_bytes))]
 pub fn evaluation_hash(point: u64, message: &[u8]) -> u64
     ensures { result ≡ evaluation_hash point message.now }
 {
@@ -193,6 +215,7 @@ pub fn evaluation_hash(point: u64, message: &[u8]) -> u64
 }
 
 // The family's hash is the formula, and its keys are the points other than zero.
+#[tactic(auto, using(crate::specs::EvaluationFamily::evaluation_facts))]
 pub fn evaluation_facts()
     ensures { EvaluationFacts }
 {}

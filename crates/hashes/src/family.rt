@@ -12,6 +12,8 @@ pub trait Family: Sized + Drop {
     // What a value of the type stands for.
     ghost state: { Self → meaning.State };
 
+    // `code` and `key_len` are functions: a constant of the trait would need a ghost member beside it that says what it is.
+
     // The family's code.
     fn code() -> u8
         ensures { result ≡ meaning.code };

@@ -1,23 +1,25 @@
 // A family made of any family: it holds back up to 64 bytes and hands them down together.
-ghost use Rattle.std.specs.Prelude.{◌≡◌, ◌+◌, ◌≤◌, ◌++◌, length, take};
+ghost use Rattle.std.specs.Prelude.{◌≡◌, []};
 ghost use Rattle.hashes.specs.Family.{absorbed};
 
 use crate::family::Family;
+use crate::held::Held;
 use crate::key_fault::KeyFault;
+
+// How many bytes can be held back.
+const ROOM: usize = 64;
 
 #[derive(Drop)]
 pub struct Gather<F: Family> {
     below: F,
-    held: [u8; 64],
-    len: usize,
-    ghost fits: { len ≤ 64 },
+    held: Held<ROOM>,
 }
 
 impl<F: Family> Family for Gather<F> {
     ghost meaning = { F.meaning };
 
     // The state below, moved on by the bytes held.
-    ghost state = { λ g. absorbed F.meaning (F.state g.below) (take g.len g.held) };
+    ghost state = { λ g. absorbed F.meaning (F.state g.below) g.held };
 
     ghost lawful = { F.lawful };
 
@@ -33,20 +35,19 @@ impl<F: Family> Family for Gather<F> {
         let below = F::open(key)?;
         Ok(Gather {
             below,
-            held: [0; 64],
-            len: 0,
+            held: Held::new(),
         })
     }
 
     // A part that is longer than what can be held goes down as it is, uncopied.
     fn absorb(&mut self, part: &[u8]) {
-        if part.len() > 64 - self.len {
+        if part.len() > self.held.room() {
             self.hand_down();
         }
-        if part.len() > 64 {
+        if part.len() > ROOM {
             self.below.absorb(part);
         } else {
-            self.hold(part);
+            self.held.extend(part);
         }
     }
 
@@ -59,21 +60,10 @@ impl<F: Family> Family for Gather<F> {
 impl<F: Family> Gather<F> {
     // Hands the bytes held down.
     fn hand_down(&mut self)
-        ensures empty { self.new.len ≡ 0 }
-        ensures below { F.state self.new.below ≡ absorbed F.meaning (F.state self.old.below) (take self.old.len self.old.held) }
+        ensures empty { self.new.held ≡ [] }
+        ensures below { F.state self.new.below ≡ absorbed F.meaning (F.state self.old.below) self.old.held }
     {
-        self.below.absorb(&self.held[..self.len]);
-        self.len = 0;
-    }
-
-    // Holds a part that there is room for.
-    fn hold(&mut self, part: &[u8])
-        requires { self.old.len + length part.now ≤ 64 }
-        ensures below { self.new.below ≡ self.old.below }
-        ensures held { take self.new.len self.new.held ≡ take self.old.len self.old.held ++ part.now }
-    {
-        let end = self.len + part.len();
-        self.held[self.len..end].copy_from_slice(part);
-        self.len = end;
+        self.below.absorb(self.held.as_slice());
+        self.held.clear();
     }
 }

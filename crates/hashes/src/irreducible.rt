@@ -1,12 +1,13 @@
 // The exact test of a key polynomial, and the fields that irreducible polynomials give.
-ghost use Rattle.std.specs.Prelude.{◌≡◌, ◌+◌, ◌^◌, Decides, bit_xor};
+ghost use Rattle.std.specs.Prelude.{◌≡◌, ◌+◌, ◌^◌, Decides};
+ghost use Rattle.hashes.specs.BenOr.{coprime_turns};
 ghost use Rattle.hashes.specs.Field.{ResidueFields};
 ghost use Rattle.hashes.specs.Irreducible.{Irreducible, irreducible_by_trial};
-ghost use Rattle.hashes.specs.Polynomial.{gcd};
 
 use crate::polynomial::{coprime, multiply};
 
 // Whether x^64 + p is irreducible: whether it has no factor in common with x^(2^i) + x for any i from 1 to 32.
+#[tactic(auto, using(crate::proofs::KeyTest::turns_exact, crate::proofs::KeyTest::turns_value))]
 pub fn is_irreducible(p: u64) -> bool
     ensures value { result ≡ irreducible_by_trial (2 ^ 64 + p) }
     ensures exact { Decides result (Irreducible (2 ^ 64 + p)) }
@@ -15,28 +16,22 @@ pub fn is_irreducible(p: u64) -> bool
 }
 
 // Whether x^64 + p has no factor in common with x^(2^i) + x for any i from 1 to `turns`.
+#[tactic(auto, using(crate::specs::BenOr::first_turn, crate::specs::BenOr::no_turn))]
 fn coprime_to_powers(p: u64, turns: u32) -> bool
-    ensures value { turns ≡ 32 → result ≡ irreducible_by_trial (2 ^ 64 + p) }
-    ensures exact { turns ≡ 32 → Decides result (Irreducible (2 ^ 64 + p)) }
+    ensures { result ≡ coprime_turns (2 ^ 64 + p) turns 2 }
 {
     let mut y: u64 = 2;
-    for i in 0..turns {
+    for _ in 0..turns {
         y = multiply(y, y, p);
-        if !apart_from_x(p, y) {
+        if !coprime(p, y ^ 2) {
             return false;
         }
     }
     true
 }
 
-// Whether x^64 + p has no factor in common with y + x.
-fn apart_from_x(p: u64, y: u64) -> bool
-    ensures { Decides result (gcd (2 ^ 64 + p) (bit_xor y 2) ≡ 1) }
-{
-    coprime(p, y ^ 2)
-}
-
 // The residues modulo an irreducible polynomial are a field, and the evaluation hash's modulus x^64 + x^4 + x^3 + x + 1 is irreducible.
+#[tactic(auto, using(crate::proofs::FieldLaws::residue_fields, crate::specs::Modulus::modulus_irreducible))]
 pub fn residue_fields()
     ensures fields { ResidueFields }
     ensures modulus { Irreducible (2 ^ 64 + 0x1B) }

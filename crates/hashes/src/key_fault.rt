@@ -2,14 +2,15 @@
 ghost use Rattle.hashes.specs.KeyFault.{number_of_key_fault};
 ghost use Rattle.std.specs.Prelude.{◌≡◌};
 
-#[derive(Clone, Copy)]
+// Each fault has its number.
+#[derive(Debug, Clone, Copy, PartialEq, Eq)]
 pub enum KeyFault {
     // It has another length.
-    Length,
+    Length = 1,
     // A word that may not be zero is.
-    Zero,
+    Zero = 2,
     // The polynomial is not irreducible.
-    Reducible,
+    Reducible = 3,
 }
 
 impl KeyFault {
@@ -17,10 +18,6 @@ impl KeyFault {
     pub fn number(&self) -> u8
         ensures { result ≡ number_of_key_fault self.now }
     {
-        match self {
-            KeyFault::Length => 1,
-            KeyFault::Zero => 2,
-            KeyFault::Reducible => 3,
-        }
+        *self as u8
     }
 }

@@ -1,5 +1,6 @@
 // Polynomials over GF(2) in words: the coefficient at x^i is the bit worth 2^i. As a modulus, a word w stands for x^64 + w.
-ghost use Rattle.std.specs.Prelude.{◌≡◌, ◌+◌, ◌*◌, ◌/◌, ◌%◌, ◌^◌, Decides, bit_xor};
+ghost use Rattle.std.specs.Prelude.{◌≡◌, ℕ, ◌+◌, ◌*◌, ◌/◌, ◌%◌, ◌^◌, ◌<◌, ◌==◌, bit_xor, slice_index};
+ghost use Rattle.std.specs.Int.{IsPowerOfTwo};
 ghost use Rattle.hashes.specs.Laws.{PolynomialLaws};
 ghost use Rattle.hashes.specs.Polynomial.{gcd, remainder, times_mod};
 
@@ -7,10 +8,11 @@ ghost use Rattle.hashes.specs.Polynomial.{gcd, remainder, times_mod};
 pub(crate) fn double(a: u64, w: u64) -> u64
     ensures { result ≡ bit_xor (a * 2 % 2 ^ 64) (a / 2 ^ 63 * w) }
 {
-    if a >> 63 == 1 { (a << 1) ^ w } else { a << 1 }
+    (a << 1) ^ ((a >> 63) * w)
 }
 
 // a times b, modulo x^64 + w.
+#[tactic(auto, using(crate::proofs::Products::product_turn, crate::proofs::Products::product_end))]
 pub(crate) fn multiply(a: u64, b: u64, w: u64) -> u64
     ensures { result ≡ times_mod (2 ^ 64 + w) a b }
 {
@@ -18,16 +20,34 @@ pub(crate) fn multiply(a: u64, b: u64, w: u64) -> u64
     let mut x = b;
     let mut y = a;
     while y != 0 {
-        if y & 1 == 1 {
-            sum ^= x;
-        }
+        sum ^= (y & 1) * x;
         x = double(x, w);
         y >>= 1;
     }
     sum
 }
 
+// The products of the numbers below N and a, modulo x^64 + w, where N is a power of two: each turn doubles how many stand.
+pub(crate) fn multiples<const N: usize>(a: u64, w: u64) -> [u64; N]
+    requires { IsPowerOfTwo N }
+    ensures { (t : ℕ) → t < N → slice_index result t ≡ times_mod (2 ^ 64 + w) t a }
+{
+    let mut result = [0; N];
+    let words = &mut result[..];
+    let mut power = a;
+    for k in 0..N.ilog2() {
+        let half = 1usize << k;
+        words.copy_within(..half, half);
+        for word in &mut words[half..2 * half] {
+            *word ^= power;
+        }
+        power = double(power, w);
+    }
+    result
+}
+
 // The remainder of a by b; a itself where b is zero.
+#[tactic(auto, using(crate::proofs::Shifts::remainder_steps))]
 pub(crate) fn remainder(a: u64, b: u64) -> u64
     ensures { result ≡ remainder a b }
 {
@@ -41,16 +61,10 @@ pub(crate) fn remainder(a: u64, b: u64) -> u64
     r
 }
 
-// One step of Euclid's.
-fn euclid(a: u64, b: u64) -> (u64, u64)
-    ensures { (result.0 ≡ b) × (result.1 ≡ remainder a b) }
-{
-    (b, remainder(a, b))
-}
-
 // Whether x^64 + w and u have no factor in common.
+#[tactic(auto, using(crate::proofs::Shifts::euclid_steps))]
 pub(crate) fn coprime(w: u64, u: u64) -> bool
-    ensures { Decides result (gcd (2 ^ 64 + w) u ≡ 1) }
+    ensures { result ≡ (gcd (2 ^ 64 + w) u == 1) }
 {
     if u == 0 {
         return false;
@@ -61,14 +75,13 @@ pub(crate) fn coprime(w: u64, u: u64) -> bool
     let mut a = u;
     let mut b = remainder(w ^ (u << (u.leading_zeros() + 1)), u);
     while b != 0 {
-        let (next, rest) = euclid(a, b);
-        a = next;
-        b = rest;
+        (a, b) = (b, remainder(a, b));
     }
     a == 1
 }
 
 // The laws of polynomials over GF(2), which the contracts of this crate rest on.
+#[tactic(auto, using(crate::proofs::PolynomialLaws::polynomial_laws))]
 pub fn polynomial_laws()
     ensures { PolynomialLaws }
 {}

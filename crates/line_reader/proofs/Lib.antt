@@ -6,7 +6,6 @@ pub mod Names
 pub mod Forms
 pub mod Escapes
 pub mod Judged
-pub mod Examples
 pub mod Fronts
 pub mod Decodings
 pub mod Progress

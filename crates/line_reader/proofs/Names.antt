@@ -86,7 +86,7 @@ carry (t, Ok (Some d)) = (d ∷ (characters false t).0, (characters false t).1)
 carry (t, Ok None) = ([], (t, Ok tt))
 carry (t, Err f) = ([], (t, Err f))
 
-pub character_then : (text : List ℕ) → characters false text ≡ carry (read_character text)
+character_then : (text : List ℕ) → characters false text ≡ carry (read_character text)
 character_then [] = refl
 character_then (b ∷ t) = decide (cases_Bool (eqb b 92)) (cases_Bool (plain b)) t
   where
@@ -102,6 +102,12 @@ character_then (b ∷ t) = decide (cases_Bool (eqb b 92)) (cases_Bool (plain b))
     decide (inl e) _ t = subst (λ x. characters false (x ∷ t) ≡ carry (read_character (x ∷ t))) (sym (eqb-true b 92 e)) (escaped t)
     decide (inr e) (inl p) t = rw (p, e)
     decide (inr e) (inr p) t = rw (p, e)
+
+pub characters_by : (text : List ℕ) (s : Stage (Option ℕ)) → read_character text ≡ s → characters false text ≡ carry s
+characters_by text s e = character_then text ∙ ap carry e
+
+pub decoded_by : (text : List ℕ) (s : Stage (Option ℕ)) → read_character text ≡ s → decoded text ≡ (carry s).0
+decoded_by text s e = ap (λ x. x.0) (characters_by text s e)
 
 -- what is left is no longer
 pub characters_less : (text rest : List ℕ) (r : Result (Unit {0}) ReadFault) → (characters false text).1 ≡ (rest, r) → length rest ≤ length text

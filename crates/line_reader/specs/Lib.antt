@@ -13,4 +13,5 @@ pub mod MakeFaults
 pub mod Sending
 pub mod SiteInput
 pub mod InputFaults
+pub mod FamilyCodes
 pub mod WorkedSums

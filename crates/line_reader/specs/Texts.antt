@@ -1,5 +1,5 @@
 -- Texts: the lines that one is cut into, and a text that spells some records.
-use Rattle.std.specs.Prelude.{ℕ, ◌+◌, cond, List, [], ◌∷◌, ◌++◌, map, codes, ◌==◌}
+use Rattle.std.specs.Prelude.{◌≡◌, ℕ, ◌+◌, ◌<◌, cond, List, [], ◌∷◌, ◌++◌, length, map, codes, Option, MatchOption, ◌==◌}
 use Rattle.std.specs.Int.Digits.{digits_of}
 use Rattle.register.specs.Records.{Record, zone, point, rule}
 use Rattle.line_reader.specs.declared.kind.Kind.{Kind}
@@ -15,6 +15,10 @@ on_first b (l ∷ ls) = (b ∷ l) ∷ ls
 abbrev pub lines_of : List ℕ → List (List ℕ)
 lines_of [] = []
 lines_of (b ∷ bs) = cond (b == 0x0A) ([] ∷ lines_of bs) (on_first b (lines_of bs))
+
+-- a text gives its first line, if there is one, and later is what is left after its line feed
+abbrev pub TakesLine : List ℕ → Option (List ℕ) → List ℕ → Type 0
+TakesLine text found later = MatchOption found (text ≡ []) (λ line. (lines_of text ≡ line ∷ lines_of later) × (length later < length text))
 
 -- a number in decimal digits
 abbrev pub decimal : ℕ → List ℕ

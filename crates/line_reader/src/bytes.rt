@@ -1,27 +1,21 @@
-// What one byte means in a line: a digit, a byte of a name, the letter of an escape.
-ghost use Rattle.line_reader.specs.Grammar.{digit, leads, plain, unescaped};
+// What one byte means in a line: the front of a number, a byte of a name, the letter of an escape.
+ghost use Rattle.line_reader.specs.Grammar.{leads, plain, unescaped};
 ghost use Rattle.std.specs.Prelude.{◌≡◌};
 
 use crate::fault::ReadFault;
-
-pub(crate) fn digit(b: u8) -> bool
-    ensures { result ≡ digit b }
-{
-    b >= b'0' && b <= b'9'
-}
 
 // Whether a number may begin with the byte.
 pub(crate) fn leads(b: u8) -> bool
     ensures { result ≡ leads b }
 {
-    digit(b) && b != b'0'
+    matches!(b, b'1'..=b'9')
 }
 
 // Whether the byte stands for itself in a name.
 pub(crate) fn plain(b: u8) -> bool
     ensures { result ≡ plain b }
 {
-    b >= 0x20 && b <= 0x7e && b != b'"' && b != b'\\'
+    matches!(b, b' '..=b'~') && !matches!(b, b'"' | b'\\')
 }
 
 // The byte that a backslash and this letter give.

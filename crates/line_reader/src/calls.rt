@@ -16,13 +16,14 @@ use register::fault::RecordFault;
 use register::record::{SiteRecord, point_record, rule_record};
 use register::register::Register;
 
-#[derive(Clone, Copy, Drop)]
+// Each case is a public call of the register, so what is promised of lists of calls is promised of these.
+#[derive(Clone, Copy, Debug, PartialEq, Eq)]
 pub enum Call<'a> {
     // The bytes of one line.
     Line(&'a [u8]),
     // A zone and its name.
     Zone { number: u32, name: &'a [u8] },
-    // A point of a kind, in a zone.
+    // A point of a kind, in a zone. A byte and no enum, as in a record.
     Point { number: u32, zone: u32, kind: u8 },
     // An alarm in the zone drives the point.
     Rule { zone: u32, point: u32 },
@@ -40,6 +41,7 @@ fn named_zone<F: Family>(
     ensures writes { out.new ≡ output_after F.meaning (view F.meaning F.state register.old) (Record.zone number (decoded name.now)) out.old }
     ensures keeps { Keeps result register.old register.new }
 {
+    // Fixed memory, and a length beside it: there is no heap.
     let mut bytes = [0; 41];
     let n = decode(name, &mut bytes);
     register.apply_into(
@@ -83,12 +85,8 @@ pub(crate) fn line_into<F: Family>(
     ensures writes { out.new ≡ input_output F.meaning (view F.meaning F.state register.old) (line_input line.now) out.old }
     ensures keeps { Keeps result register.old register.new }
 {
-    let read = match read_line(line) {
-        Ok(read) => read,
-        Err(e) => return Err(LineFault::Read(e.0, e.1)),
-    };
-    let length = make_call(register, read, out)?;
-    Ok(length)
+    let read = read_line(line)?;
+    Ok(make_call(register, read, out)?)
 }
 
 // Makes the call that a line spells. The answer is the length of the message after it; a blank line or a comment adds nothing.

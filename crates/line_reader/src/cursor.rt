@@ -1,34 +1,52 @@
 // What is left of a line, and the stages that go over it as far as it fits. On a refusal it stands at the column.
 ghost use Rattle.line_reader.specs.Reading.{told, held, read_word, read_number, read_escape, read_character, read_name, read_kind, past_remark, read_comment, read_zone, read_point, read_rule, read_form, read_end, read_whole};
-ghost use Rattle.std.specs.Prelude.{◌≡◌, [], ◌∷◌};
+ghost use Rattle.std.specs.Prelude.{◌≡◌, [], ◌∷◌, length};
 
-use crate::bytes::{digit, leads, plain, unescaped};
+use crate::bytes::{leads, plain, unescaped};
 use crate::fault::ReadFault;
-use crate::kind::{Kind, likely, spelled};
+use crate::kind::Kind;
 use crate::line::Line;
+use std::marker::Model;
 
 #[derive(Drop)]
 pub(crate) struct Cursor<'a> {
-    pub(crate) rest: &'a [u8],
+    rest: &'a [u8],
+}
+
+// A clause sees what is left.
+impl<'a> Model for Cursor<'a> {
+    ghost use Rattle.std.specs.Prelude.{ℕ, List};
+
+    ghost Value = { List ℕ };
+
+    ghost view = { λ cursor. cursor.rest.now };
 }
 
 impl<'a> Cursor<'a> {
+    pub(crate) fn new(line: &'a [u8]) -> Cursor<'a>
+        ensures { result ≡ line.now }
+    {
+        Cursor { rest: line }
+    }
+
+    // How much is left.
+    pub(crate) fn len(&self) -> usize
+        ensures { result ≡ length self.now }
+    {
+        self.rest.len()
+    }
+
     // The byte `b`.
     fn byte(&mut self, b: u8) -> Result<(), ReadFault>
-        ensures { read_word (b ∷ []) self.old.rest.now ≡ (self.new.rest.now, result) }
+        ensures { read_word (b ∷ []) self.old ≡ (self.new, result) }
     {
-        match self.rest {
-            [first, rest @ ..] if *first == b => {
-                self.rest = rest;
-                Ok(())
-            }
-            _ => Err(ReadFault::Syntax),
-        }
+        self.rest = self.rest.strip_prefix(&[b]).ok_or(ReadFault::Syntax)?;
+        Ok(())
     }
 
     // The word `word`.
     fn word(&mut self, word: &[u8]) -> Result<(), ReadFault>
-        ensures { read_word word.now self.old.rest.now ≡ (self.new.rest.now, result) }
+        ensures { read_word word.now self.old ≡ (self.new, result) }
     {
         for b in word {
             self.byte(*b)?;
@@ -38,16 +56,15 @@ impl<'a> Cursor<'a> {
 
     // A number: a byte that may lead one, and five digits at most.
     fn number(&mut self) -> Result<u32, ReadFault>
-        ensures { read_number self.old.rest.now ≡ (self.new.rest.now, result) }
+        ensures { read_number self.old ≡ (self.new, result) }
     {
-        match self.rest {
-            [b, ..] if leads(*b) => {}
-            _ => return Err(ReadFault::Syntax),
+        if !matches!(self.rest, [b, ..] if leads(*b)) {
+            return Err(ReadFault::Syntax);
         }
         let mut value: u32 = 0;
-        for _left in (0..5u32).rev() {
+        for _ in 0..5u32 {
             match self.rest {
-                [b, rest @ ..] if digit(*b) => {
+                [b, rest @ ..] if b.is_ascii_digit() => {
                     value = 10 * value + u32::from(*b - b'0');
                     self.rest = rest;
                 }
@@ -59,21 +76,17 @@ impl<'a> Cursor<'a> {
 
     // The letter of an escape, after its backslash, as the byte that the two give.
     fn escape(&mut self) -> Result<u8, ReadFault>
-        ensures { read_escape self.old.rest.now ≡ (self.new.rest.now, result) }
+        ensures { read_escape self.old ≡ (self.new, result) }
     {
-        match self.rest {
-            [letter, after @ ..] => {
-                let byte = unescaped(char::from(*letter))?;
-                self.rest = after;
-                Ok(byte)
-            }
-            [] => Err(ReadFault::Escape),
-        }
+        let (letter, after) = self.rest.split_first().ok_or(ReadFault::Escape)?;
+        let byte = unescaped(char::from(*letter))?;
+        self.rest = after;
+        Ok(byte)
     }
 
     // One character of a name, as its byte. None where the name ends.
     pub(crate) fn character(&mut self) -> Result<Option<u8>, ReadFault>
-        ensures { read_character self.old.rest.now ≡ (self.new.rest.now, result) }
+        ensures { read_character self.old ≡ (self.new, result) }
     {
         match self.rest {
             [b'\\', rest @ ..] => {
@@ -91,7 +104,7 @@ impl<'a> Cursor<'a> {
 
     // A name as it is written.
     fn name(&mut self) -> Result<&'a [u8], ReadFault>
-        ensures { read_name self.old.rest.now ≡ (self.new.rest.now, held result) }
+        ensures { read_name self.old ≡ (self.new, held result) }
     {
         let start = self.rest;
         while let Some(_) = self.character()? {}
@@ -100,28 +113,24 @@ impl<'a> Cursor<'a> {
 
     // The word of a kind.
     fn kind(&mut self) -> Result<Kind, ReadFault>
-        ensures { read_kind self.old.rest.now ≡ (self.new.rest.now, result) }
+        ensures { read_kind self.old ≡ (self.new, result) }
     {
-        let kind = likely(self.rest);
-        self.word(spelled(kind))?;
+        let kind = Kind::likely(self.rest);
+        self.word(kind.spelled())?;
         Ok(kind)
     }
 
     // Bytes up to a line feed or the end.
     fn remark(&mut self)
-        ensures { past_remark self.old.rest.now ≡ self.new.rest.now }
+        ensures { past_remark self.old ≡ self.new }
     {
-        while let [b, rest @ ..] = self.rest {
-            if *b == b'\n' {
-                break;
-            }
-            self.rest = rest;
-        }
+        let end = self.rest.iter().position(|b| *b == b'\n');
+        self.rest = &self.rest[end.unwrap_or(self.rest.len())..];
     }
 
     // A comment.
     fn comment(&mut self) -> Result<Line<'a>, ReadFault>
-        ensures { read_comment self.old.rest.now ≡ (self.new.rest.now, told result) }
+        ensures { read_comment self.old ≡ (self.new, told result) }
     {
         self.word(b"#")?;
         self.remark();
@@ -130,7 +139,7 @@ impl<'a> Cursor<'a> {
 
     // A line `zone N "NAME"`.
     fn zone(&mut self) -> Result<Line<'a>, ReadFault>
-        ensures { read_zone self.old.rest.now ≡ (self.new.rest.now, told result) }
+        ensures { read_zone self.old ≡ (self.new, told result) }
     {
         self.word(b"zone ")?;
         let number = self.number()?;
@@ -142,7 +151,7 @@ impl<'a> Cursor<'a> {
 
     // A line `point N Z KIND`.
     fn point(&mut self) -> Result<Line<'a>, ReadFault>
-        ensures { read_point self.old.rest.now ≡ (self.new.rest.now, told result) }
+        ensures { read_point self.old ≡ (self.new, told result) }
     {
         self.word(b"point ")?;
         let number = self.number()?;
@@ -155,7 +164,7 @@ impl<'a> Cursor<'a> {
 
     // A line `rule Z N`.
     fn rule(&mut self) -> Result<Line<'a>, ReadFault>
-        ensures { read_rule self.old.rest.now ≡ (self.new.rest.now, told result) }
+        ensures { read_rule self.old ≡ (self.new, told result) }
     {
         self.word(b"rule ")?;
         let zone = self.number()?;
@@ -166,7 +175,7 @@ impl<'a> Cursor<'a> {
 
     // A line of the form that its first byte tells. Where that tells none, no byte is taken.
     fn form(&mut self) -> Result<Line<'a>, ReadFault>
-        ensures { read_form self.old.rest.now ≡ (self.new.rest.now, told result) }
+        ensures { read_form self.old ≡ (self.new, told result) }
     {
         match self.rest {
             [b'#', ..] => self.comment(),
@@ -179,7 +188,7 @@ impl<'a> Cursor<'a> {
 
     // The end of the line.
     fn end(&self) -> Result<(), ReadFault>
-        ensures { read_end self.now.rest.now ≡ (self.now.rest.now, result) }
+        ensures { read_end self.now ≡ (self.now, result) }
     {
         if self.rest.is_empty() {
             Ok(())
@@ -190,7 +199,7 @@ impl<'a> Cursor<'a> {
 
     // A line of the grammar, to its end.
     pub(crate) fn line(&mut self) -> Result<Line<'a>, ReadFault>
-        ensures { read_whole self.old.rest.now ≡ (self.new.rest.now, told result) }
+        ensures { read_whole self.old ≡ (self.new, told result) }
     {
         let line = self.form()?;
         self.end()?;

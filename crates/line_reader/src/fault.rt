@@ -4,34 +4,34 @@ ghost use Rattle.line_reader.specs.Codes.{number_of_read_fault};
 ghost use Rattle.line_reader.specs.InputFaults.{number_of_input_fault, place_of_input_fault};
 ghost use Rattle.line_reader.specs.MakeFaults.{number_of_make_fault, place_of_make_fault};
 ghost use Rattle.line_reader.specs.declared.fault.InputFault.TheVariants.{Site};
-ghost use Rattle.line_reader.specs.declared.fault.LineFault.TheVariants.{Record};
+ghost use Rattle.line_reader.specs.declared.fault.LineFault.TheVariants.{Read, Record};
 ghost use Rattle.line_reader.specs.declared.fault.MakeFault.TheVariants.{Key};
 ghost use Rattle.std.specs.Prelude.{◌≡◌};
 
 use hashes::key_fault::KeyFault;
 use register::fault::RecordFault;
 
-#[derive(Clone, Copy, Debug, PartialEq)]
+// A refusal's number, with the line, from 1, and the column. Plain numbers, by a rule of the project.
+pub type Refusal = (u8, (usize, usize));
+
+#[derive(Clone, Copy, Debug, PartialEq, Eq)]
 pub enum ReadFault {
     // A byte or the line's end does not fit.
-    Syntax,
+    Syntax = 11,
     // What follows a backslash is no letter of an escape.
-    Escape,
+    Escape = 12,
 }
 
 impl ReadFault {
     pub fn number(&self) -> u8
         ensures { result ≡ number_of_read_fault self.now }
     {
-        match self {
-            ReadFault::Syntax => 11,
-            ReadFault::Escape => 12,
-        }
+        *self as u8
     }
 }
 
 // Why the call of a line is refused.
-#[derive(Clone, Copy, Drop)]
+#[derive(Clone, Copy, Debug, PartialEq, Eq)]
 pub enum LineFault {
     // The line is not in the grammar: how, and at which column.
     Read(ReadFault, usize),
@@ -43,6 +43,7 @@ impl LineFault {
     pub fn number(&self) -> u8
         ensures { result ≡ number_of_line_fault self.now }
     {
+        // No number at the variants, since each holds a fault that has its own.
         match self {
             LineFault::Read(fault, _) => fault.number(),
             LineFault::Record(fault) => fault.number(),
@@ -60,6 +61,15 @@ impl LineFault {
     }
 }
 
+// Conversions by hand here and below, since the library derives none.
+impl From<(ReadFault, usize)> for LineFault {
+    ghost from_gives = { λ f r. r ≡ Read f.0 f.1 };
+
+    fn from((fault, column): (ReadFault, usize)) -> LineFault {
+        LineFault::Read(fault, column)
+    }
+}
+
 impl From<RecordFault> for LineFault {
     ghost from_gives = { λ f r. r ≡ Record f };
 
@@ -69,7 +79,7 @@ impl From<RecordFault> for LineFault {
 }
 
 // Why no image of a text is made.
-#[derive(Clone, Copy, Drop)]
+#[derive(Clone, Copy, Debug, PartialEq, Eq)]
 pub enum MakeFault {
     // The key buffer does not open.
     Key(KeyFault),
@@ -83,6 +93,7 @@ impl MakeFault {
     pub fn number(&self) -> u8
         ensures { result ≡ number_of_make_fault self.now }
     {
+        // No number at the variants, since two hold a fault that has its own.
         match self {
             MakeFault::Key(fault) => fault.number(),
             MakeFault::Line(fault, _) => fault.number(),
@@ -110,7 +121,7 @@ impl From<KeyFault> for MakeFault {
 }
 
 // Why there is no seal of an input of the program.
-#[derive(Clone, Copy, Drop)]
+#[derive(Clone, Copy, Debug, PartialEq, Eq)]
 pub enum InputFault {
     // There is no code byte, or it picks no family.
     Code,
@@ -124,6 +135,7 @@ impl InputFault {
     pub fn number(&self) -> u8
         ensures { result ≡ number_of_input_fault self.now }
     {
+        // No number at the variants, since one holds a fault that has its own.
         match self {
             InputFault::Code => 4,
             InputFault::Length => 5,

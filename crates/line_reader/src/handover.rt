@@ -11,18 +11,7 @@ use crate::calls::{Call, line};
 use crate::fault::LineFault;
 use hashes::family::Family;
 use hashes::key_fault::KeyFault;
-use register::fault::RecordFault;
 use register::register::Register;
-
-// The answer of a record call as that of a line.
-fn as_line(answer: Result<usize, RecordFault>) -> Result<usize, LineFault>
-    ensures { line_reply result ≡ reply_of answer }
-{
-    match answer {
-        Ok(n) => Ok(n),
-        Err(fault) => Err(LineFault::Record(fault)),
-    }
-}
 
 // Makes a call.
 fn serve<F: Family>(register: &mut Register<F>, call: Call) -> Result<usize, LineFault>
@@ -31,9 +20,9 @@ fn serve<F: Family>(register: &mut Register<F>, call: Call) -> Result<usize, Lin
 {
     match call {
         Call::Line(bytes) => line(register, bytes),
-        Call::Zone { number, name } => as_line(register.zone(number, name)),
-        Call::Point { number, zone, kind } => as_line(register.point(number, zone, kind)),
-        Call::Rule { zone, point } => as_line(register.rule(zone, point)),
+        Call::Zone { number, name } => Ok(register.zone(number, name)?),
+        Call::Point { number, zone, kind } => Ok(register.point(number, zone, kind)?),
+        Call::Rule { zone, point } => Ok(register.rule(zone, point)?),
     }
 }
 
@@ -49,8 +38,9 @@ pub fn seal_calls<F: Family>(
     ensures wiped { buffer.new ≡ replicate (length buffer.old) 0 }
 {
     let mut register = Register::<F>::open(buffer)?;
-    for i in 0..calls.len() {
-        let answer = serve(&mut register, calls[i]);
+    for (i, call) in calls.iter().enumerate() {
+        let answer = serve(&mut register, *call);
+        // By index: of a slice written through `get_mut` a proof knows the length alone, and a `zip` would stop at the last place.
         if i < answers.len() {
             answers[i] = answer;
         }
@@ -58,28 +48,8 @@ pub fn seal_calls<F: Family>(
     Ok(register.close())
 }
 
-// Seals two sites, each by its own key buffer.
-fn seal_both<F: Family>(
-    buffer: &mut [u8],
-    calls: &[Call],
-    answers: &mut [Result<usize, LineFault>],
-    buffer2: &mut [u8],
-    calls2: &[Call],
-    answers2: &mut [Result<usize, LineFault>],
-) -> (Result<u64, KeyFault>, Result<u64, KeyFault>)
-    ensures seals { opened (λ s. s) result.0 ≡ sealing F.meaning buffer.old calls.now }
-    ensures replies { map line_reply answers.new ≡ placed (replies_if (opening F.meaning buffer.old) calls.now) (map line_reply answers.old) }
-    ensures wiped { buffer.new ≡ replicate (length buffer.old) 0 }
-    ensures seals2 { opened (λ s. s) result.1 ≡ sealing F.meaning buffer2.old calls2.now }
-    ensures replies2 { map line_reply answers2.new ≡ placed (replies_if (opening F.meaning buffer2.old) calls2.now) (map line_reply answers2.old) }
-    ensures wiped2 { buffer2.new ≡ replicate (length buffer2.old) 0 }
-{
-    let first = seal_calls::<F>(buffer, calls, answers);
-    let second = seal_calls::<F>(buffer2, calls2, answers2);
-    (first, second)
-}
-
-// Seals two sites by calls on two new registers, each by its own key buffer, which it leaves zero, and answers both seals.
+// Seals two sites by calls on two new registers, each by its own key buffer, which it leaves zero, and answers both seals. What belongs to
+// a site is not a struct, so that each clause names what it speaks of.
 pub fn handover<F: Family>(
     buffer: &mut [u8],
     calls: &[Call],
@@ -97,5 +67,8 @@ pub fn handover<F: Family>(
     ensures promise { HandoverPromise F.meaning }
     ensures messages { MessagesPromise F.meaning }
 {
-    seal_both::<F>(buffer, calls, answers, buffer2, calls2, answers2)
+    (
+        seal_calls::<F>(buffer, calls, answers),
+        seal_calls::<F>(buffer2, calls2, answers2),
+    )
 }

@@ -4,6 +4,7 @@
 mod bytes;
 pub mod calls;
 mod cursor;
+pub mod family_code;
 pub mod fault;
 pub mod handover;
 pub mod kind;

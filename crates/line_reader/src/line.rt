@@ -1,7 +1,7 @@
 // A line as read.
 use crate::kind::Kind;
 
-#[derive(Clone, Copy)]
+#[derive(Clone, Copy, Debug, PartialEq, Eq)]
 pub enum Line<'a> {
     // An empty line or a comment.
     Blank,

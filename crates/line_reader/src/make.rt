@@ -1,28 +1,50 @@
 // Making the image of a text.
-ghost use Rattle.std.specs.Prelude.{◌≡◌, ℕ, ◌<◌, ◌≤◌, length, replicate, ◌≢◌, slice_index};
+ghost use Rattle.std.specs.Iterator.{at_most};
+ghost use Rattle.std.specs.Option.{option_map};
+ghost use Rattle.std.specs.Prelude.{◌≡◌, length, replicate};
 ghost use Rattle.line_reader.specs.Making.{TextsPass, made};
 ghost use Rattle.line_reader.specs.Sending.{SendsLines, wiped};
+ghost use Rattle.line_reader.specs.Texts.{TakesLine};
 ghost use Rattle.register.specs.Values.{view};
 
 use crate::calls::line_into;
-use crate::fault::MakeFault;
+use crate::fault::{MakeFault, Refusal};
 use hashes::family::Family;
 use register::output::put_bytes;
 use register::register::Register;
 
-// Where the line ends that begins at a place.
-fn line_end(text: &[u8], at: usize) -> usize
-    requires { at ≤ length text.now }
-    ensures low { at ≤ result }
-    ensures high { result ≤ length text.now }
-    ensures plain { (k : ℕ) → at ≤ k → k < result → slice_index text.now k ≢ 10 }
-    ensures stop { result < length text.now → slice_index text.now result ≡ 10 }
-{
-    let mut end = at;
-    while end < text.len() && text[end] != 10 {
-        end += 1;
+// Goes through a text line by line. Not `split_inclusive`: in a generic function the check cannot state a `for` over that.
+#[derive(Drop)]
+struct Lines<'a> {
+    rest: &'a [u8],
+}
+
+impl<'a> Lines<'a> {
+    fn new(text: &'a [u8]) -> Lines<'a>
+        ensures { result.rest.now ≡ text.now }
+    {
+        Lines { rest: text }
     }
-    end
+}
+
+impl<'a> Iterator for Lines<'a> {
+    type Item = &'a [u8];
+
+    ghost next_gives = { λ old line new. TakesLine old.rest.now (option_map (λ l. l.now) line) new.rest.now };
+
+    ghost remaining = { λ lines. at_most (length lines.rest.now) };
+
+    // The next line, without its line feed; None where no byte is left.
+    fn next(&mut self) -> Option<&'a [u8]> {
+        if self.rest.is_empty() {
+            return None;
+        }
+        let end = self.rest.iter().position(|b| *b == b'\n');
+        let (line, after) = self.rest.split_at(end.unwrap_or(self.rest.len()));
+        // Past the line feed, if there is one.
+        self.rest = after.get(1..).unwrap_or(&[]);
+        Some(line)
+    }
 }
 
 // Sends the lines of a text in order to a new register, and writes the fields of their records into an output of zeros. A refusal comes with
@@ -34,15 +56,8 @@ pub(crate) fn send_lines<F: Family>(
 ) -> Result<(), MakeFault>
     ensures { SendsLines F.meaning (view F.meaning F.state register.old) text.now result (view F.meaning F.state register.new) out.old out.new }
 {
-    let mut at = 0;
-    let mut number = 1;
-    while at < text.len() {
-        let end = line_end(text, at);
-        if let Err(fault) = line_into(register, &text[at..end], out) {
-            return Err(MakeFault::Line(fault, number));
-        }
-        at = if end < text.len() { end + 1 } else { end };
-        number += 1;
+    for (i, line) in Lines::new(text).enumerate() {
+        line_into(register, line, out).map_err(|fault| MakeFault::Line(fault, i + 1))?;
     }
     Ok(())
 }
@@ -56,6 +71,7 @@ fn build<F: Family>(text: &[u8], buffer: &mut [u8], out: &mut [u8]) -> Result<us
     let mut register = Register::<F>::open(buffer)?;
     send_lines(&mut register, text, out)?;
     let at = register.len();
+    // One test for the whole field, since no part of it may be written.
     if at > out.len() || out.len() - at < 12 {
         return Err(MakeFault::Room);
     }
@@ -64,35 +80,18 @@ fn build<F: Family>(text: &[u8], buffer: &mut [u8], out: &mut [u8]) -> Result<us
     Ok(at + 12)
 }
 
-// Writes the image of a text followed by zeros into an output, or only zeros.
-fn image_or_zeros<F: Family>(
-    text: &[u8],
-    buffer: &mut [u8],
-    out: &mut [u8],
-) -> Result<usize, (u8, (usize, usize))>
-    ensures makes { (result, out.new) ≡ made F.meaning buffer.old text.now (length out.old) }
-    ensures cleared { buffer.new ≡ replicate (length buffer.old) 0 }
-{
-    out.fill(0);
-    match build::<F>(text, buffer, out) {
-        Ok(n) => Ok(n),
-        Err(fault) => {
-            out.fill(0);
-            Err((fault.number(), fault.place()))
-        }
-    }
-}
-
 // Makes the image of a text by a key buffer, which it leaves zero. The answer is the length of the image, and the output holds the image
 // followed by zeros. A refusal answers its number with the line, from 1, and the column, and leaves only zeros in the output.
-pub fn make<F: Family>(
-    text: &[u8],
-    buffer: &mut [u8],
-    out: &mut [u8],
-) -> Result<usize, (u8, (usize, usize))>
+pub fn make<F: Family>(text: &[u8], buffer: &mut [u8], out: &mut [u8]) -> Result<usize, Refusal>
     ensures makes { (result, out.new) ≡ made F.meaning buffer.old text.now (length out.old) }
     ensures cleared { buffer.new ≡ replicate (length buffer.old) 0 }
     ensures texts { TextsPass F.meaning }
 {
-    image_or_zeros::<F>(text, buffer, out)
+    out.fill(0);
+    let made = build::<F>(text, buffer, out);
+    // Not in the closure below: where `map_err` does not call it, a proof would know nothing of the output.
+    if made.is_err() {
+        out.fill(0);
+    }
+    made.map_err(|fault| (fault.number(), fault.place()))
 }

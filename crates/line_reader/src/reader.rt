@@ -14,30 +14,24 @@ pub fn read_line<'a>(line: &'a [u8]) -> Result<Line<'a>, (ReadFault, usize)>
     ensures exact { ReadingsExact }
     ensures worked { WorkedLines }
 {
-    let mut cursor = Cursor { rest: line };
-    match cursor.line() {
-        Ok(read) => Ok(read),
-        Err(fault) => Err((fault, line.len() - cursor.rest.len())),
-    }
+    let mut cursor = Cursor::new(line);
+    let read = cursor.line();
+    let column = line.len() - cursor.len();
+    read.map_err(|fault| (fault, column))
 }
 
-// Writes the bytes that a name stands for, as many as there is room for, and answers their number.
+// Writes the bytes that a name stands for, as many as there is room for, and answers their number. Into the caller's bytes: there is no heap.
 pub fn decode(name: &[u8], bytes: &mut [u8]) -> usize
     ensures count { result ≡ min (length (decoded name.now)) (length bytes.old) }
     ensures writes { bytes.new ≡ take result (decoded name.now) ++ drop result bytes.old }
     ensures exact { NamesDecoded }
 {
-    let mut cursor = Cursor { rest: name };
-    let mut n = 0;
-    while n < bytes.len() {
-        let Ok(next) = cursor.character() else {
-            break;
+    let mut cursor = Cursor::new(name);
+    for (n, place) in bytes.iter_mut().enumerate() {
+        let Ok(Some(byte)) = cursor.character() else {
+            return n;
         };
-        let Some(byte) = next else {
-            break;
-        };
-        bytes[n] = byte;
-        n += 1;
+        *place = byte;
     }
-    n
+    bytes.len()
 }

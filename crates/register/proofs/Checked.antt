@@ -1,5 +1,5 @@
 -- From the check's way through an image to its verdict.
-use Rattle.std.proofs.Common.{◌≡◌, ℕ, ◌+◌, Bool, true, false, cond, eqb, List, [], length, Some, None, Ok, Err, Option, ap, ◌∙◌, ap₂, arith}
+use Rattle.std.proofs.Common.{◌≡◌, ℕ, ◌+◌, Bool, true, false, cond, eqb, List, [], length, Some, None, Ok, Err, Option, ap, ◌∙◌, ap₂}
 use Rattle.hashes.specs.Family.{Meaning}
 use Rattle.hashes.specs.KeyFault.{taken, refused, judged}
 use Rattle.register.specs.declared.fault.ImageFault.{ImageFault}
@@ -12,11 +12,11 @@ use Rattle.register.specs.Walking.{Answers}
 -- a buffer that opens gives a register that took no record
 judged_is : {V : Type 0} (v w : V) (o : Option ℕ) → taken v ≡ judged w o → v ≡ w
 judged_is v w None e = cc
-judged_is v w (Some n) e = let z : ◌≡◌ {A = ℕ} 0 1 = cc in absurd (omega arith)
+judged_is v w (Some n) e = absurd cc
 
 sized_is : {V : Type 0} (b : Bool) (v w : V) (o : Option ℕ) → taken v ≡ cond b (judged w o) (refused 1) → v ≡ w
 sized_is true v w o e = judged_is v w o e
-sized_is false v w o e = let z : ◌≡◌ {A = ℕ} 0 1 = cc in absurd (omega arith)
+sized_is false v w o e = absurd cc
 
 pub opened_is : (M : Meaning) (buffer : List ℕ) (v : View M) → taken v ≡ opening M buffer → v ≡ standing M (key_of M buffer) (pad_of M buffer) []
 opened_is M buffer v e = sized_is (eqb (length buffer) (M.key_len + 8)) v _ (M.refusal (key_of M buffer)) e

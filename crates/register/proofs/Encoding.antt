@@ -40,9 +40,7 @@ next_field_reads (field t v) rest = cut_whole t _ v rest (two_bytes_tell (length
 -- a list of no records against one of Some
 no_fields : (s : Record) (ss : List Record) → message [] ≡ message (s ∷ ss) → ⊥
 no_fields s ss e =
-    let both = ap next_field e ∙ next_field_reads (field_of s) (message ss) in
-    let z : ◌≡◌ {A = ℕ} 0 1 = cc in
-    omega arith
+    let both = ap next_field e ∙ next_field_reads (field_of s) (message ss) in cc
 
 -- equal messages are of equal records
 pub message_inj : (rs ss : List Record) → message rs ≡ message ss → rs ≡ ss

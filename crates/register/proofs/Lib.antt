@@ -2,11 +2,11 @@ pub mod Bytes
 pub mod Encoding
 pub mod Firsts
 pub mod Rows
+pub mod Results
 pub mod Runs
 pub mod Images
 pub mod ImageMessages
 pub mod Books
-pub mod Opened
 pub mod Steps
 pub mod Walk
 pub mod Checked

@@ -1,5 +1,5 @@
 -- The check answers 1 exactly at the images that it passes.
-use Rattle.std.proofs.Common.{◌≡◌, ℕ, Bool, true, false, cond, ◌↔◌, List, [], sym, refl, ap, ◌∙◌, arith}
+use Rattle.std.proofs.Common.{◌≡◌, ℕ, Bool, true, false, cond, ◌↔◌, List, [], sym, refl, ap, ◌∙◌}
 use Rattle.std.proofs.lemmas.Bool.{eqb-true, eq-eqb}
 use Rattle.hashes.specs.Family.{Meaning}
 use Rattle.hashes.specs.KeyFault.{Answer, taken, refused}
@@ -12,7 +12,7 @@ use Rattle.register.proofs.Images.{check_compares}
 
 one_true : (b : Bool) → says (cond b 1 0) ≡ says 1 → b ≡ true
 one_true true e = refl
-one_true false e = let z : ◌≡◌ {A = ℕ} 0 1 = cc in absurd (omega arith)
+one_true false e = absurd cc
 
 module _ (M : Meaning) (buffer bytes : List ℕ) (bs : Bytes bytes) where
   outcome_passes : (o : Outcome) → check M.code bytes ≡ o → opening M buffer ≡ taken (standing M (key_of M buffer) (pad_of M buffer) [])
@@ -28,11 +28,11 @@ module _ (M : Meaning) (buffer bytes : List ℕ) (bs : Bytes bytes) where
         framed = h.2;
         agrees = eqb-true _ _ (one_true _ s);
       }
-  outcome_passes (faulty n offset) e opens s = let z : ◌≡◌ {A = ℕ} 0 1 = cc in absurd (omega arith)
+  outcome_passes (faulty n offset) e opens s = absurd cc
 
   answer_passes : (a : Answer (View M)) → opening M buffer ≡ a → checked_by M buffer bytes a ≡ says 1 → Passes M buffer bytes
   answer_passes (taken v) e s = outcome_passes (check M.code bytes) refl (e ∙ ap taken (opened_is M buffer v (sym e))) s
-  answer_passes (refused n) e s = let z : ◌≡◌ {A = ℕ} 0 1 = cc in absurd (omega arith)
+  answer_passes (refused n) e s = absurd cc
 
   passes_says : Passes M buffer bytes → checked M buffer bytes ≡ says 1
   passes_says p =

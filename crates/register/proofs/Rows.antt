@@ -1,6 +1,7 @@
 -- The rows of the book by their definition and by their tests.
 use Rattle.std.proofs.Common.{◌≡◌, ℕ, ◌<◌, ◌≤◌, Bool, true, false, ◌&&◌, ◌⊎◌, ◌↔◌, List, [], ◌∷◌, ◌++◌, length, Some, None, Decides, refl, subst, inl, inr, arith}
 use mathlib.Core.Bool.{false≢true}
+use Rattle.std.specs.List.{list_all, list_any}
 use Rattle.std.proofs.ByRecursion.{All-weaker, Decides-by_and}
 use Rattle.std.proofs.lemmas.Bool.Decides.{Decides-or, Decides-and, Decides-not, Decides-like, Decides-eqb, Decides-ltb}
 use Rattle.hashes.specs.Lists.{◌∈◌}
@@ -9,7 +10,7 @@ use Rattle.register.specs.declared.fault.RecordFault.{RecordFault}
 use Rattle.register.specs.declared.fault.RecordFault.TheVariants.{Range, Name, Repeated, Missing, Full}
 use Rattle.register.specs.Records.{Record, zone, point, rule, message}
 use Rattle.register.specs.Book.{ZoneNumber, PointNumber, Kind, NameByte, ZoneName, DeclaresZone, DeclaresPoint, ZoneDeclared, PointDeclared, Fits, Refused, Accepted, rows, limit, InRange, NameFault, RepeatFault, MissingFault}
-use Rattle.register.specs.Known.{any_record, fits, refusal, within, zone_name, name_byte, all_that, known_of, zone_declared, point_declared, declares_zone, declares_point, in_range, name_fault, repeat_fault, missing_fault}
+use Rattle.register.specs.Known.{fits, refusal, within, zone_name, name_byte, known_of, zone_declared, point_declared, declares_zone, declares_point, in_range, name_fault, repeat_fault, missing_fault}
 use Rattle.register.proofs.Encoding.{Encodable, decides_leb, message_more}
 use Rattle.register.proofs.Firsts.{first_found, first_is_found, none_found, none_is_found}
 
@@ -23,7 +24,7 @@ pub decides_name : (name : List ℕ) → Decides (zone_name name) (ZoneName name
 decides_name name =
     Decides-like _ (λ h. (h.0.0, h.0.1, h.1)) (λ h. ((h.0, h.1), h.2))
     (Decides-and _ _ (decides_within 1 40 (length name))
-    (Decides-by_and name_byte NameByte (all_that name_byte)
+    (Decides-by_and name_byte NameByte (list_all name_byte)
     (λ b. Decides-or _ _ (decides_within 0x20 0x7E b) (Decides-eqb b 0x0A)) refl (λ _ _. refl) name))
 
 decides_declares_zone : (z : ℕ) (r : Record) → Decides (declares_zone z r) (DeclaresZone z r)
@@ -36,7 +37,7 @@ decides_declares_point p (zone n name) = decides_bottom
 decides_declares_point p (point n y k) = Decides-eqb n p
 decides_declares_point p (rule y q) = decides_bottom
 
-decides_any : (P : Record → Type 0) (p : Record → Bool) → ((r : Record) → Decides (p r) (P r)) → (rs : List Record) → Decides (any_record p rs) ((r : Record) × (r ∈ rs) × P r)
+decides_any : (P : Record → Type 0) (p : Record → Bool) → ((r : Record) → Decides (p r) (P r)) → (rs : List Record) → Decides (list_any p rs) ((r : Record) × (r ∈ rs) × P r)
 decides_any P p each [] = (λ e. absurd (false≢true e), λ h. absurd h.1)
 decides_any P p each (r ∷ rs) = Decides-like _ to from (Decides-or _ _ (each r) (decides_any P p each rs))
   where

@@ -1,10 +1,10 @@
 -- A call on a register that took records is a step of a run.
-use Rattle.std.proofs.Common.{◌≡◌, ℕ, List, [], ◌∷◌, ◌++◌, Some, None, Ok, Err, Option, sym, refl, ap, ◌∙◌, subst, ap₂, append-nil, arith}
+use Rattle.std.proofs.Common.{◌≡◌, ℕ, List, [], ◌∷◌, ◌++◌, Some, None, Ok, Err, Option, sym, refl, ap, ◌∙◌, subst, ap₂, append-nil}
 use Rattle.hashes.proofs.Absorbed.{absorbed_append}
 use Rattle.hashes.specs.Family.{Meaning, absorbed}
 use Rattle.register.specs.declared.fault.RecordFault.{RecordFault}
 use Rattle.register.specs.Records.{Record, field_of, bytes_of, message}
-use Rattle.register.specs.Known.{Known, known_of, refusal, judgement}
+use Rattle.register.specs.Known.{Known, known_of, refusal}
 use Rattle.register.specs.Run.{Input, a_record, no_record, unread, taken, Step, step, step_by}
 use Rattle.register.specs.View.{View, standing, answer, answer_by, after, after_by}
 use Rattle.register.specs.Inputs.{reply_of, input_reply, input_after}
@@ -15,19 +15,14 @@ use Rattle.register.proofs.Runs.{step_sound}
 pub message_push : (rs : List Record) (r : Record) → message (rs ++ (r ∷ [])) ≡ message rs ++ bytes_of (field_of r)
 message_push rs r = message_append rs (r ∷ []) ∙ ap (λ m. message rs ++ m) (append-nil (bytes_of (field_of r)))
 
--- the row by which a book refuses
-pub judged_row : (f : RecordFault) (o : Option RecordFault) → Err f ≡ judgement o → o ≡ Some f
-judged_row f None e = let z : ◌≡◌ {A = ℕ} 0 1 = cc in absurd (omega arith)
-judged_row f (Some g) e = cc
-
 -- an answer by its row
 refused_row : (known : Known) (r : Record) (f : RecordFault) (o : Option RecordFault) → Err f ≡ answer_by known r o → o ≡ Some f
-refused_row known r f None e = let z : ◌≡◌ {A = ℕ} 0 1 = cc in absurd (omega arith)
+refused_row known r f None e = absurd cc
 refused_row known r f (Some g) e = cc
 
 taken_row : (known : Known) (r : Record) (n : ℕ) (o : Option RecordFault) → Ok n ≡ answer_by known r o → o ≡ None
 taken_row known r n None e = refl
-taken_row known r n (Some g) e = let z : ◌≡◌ {A = ℕ} 0 1 = cc in absurd (omega arith)
+taken_row known r n (Some g) e = absurd cc
 
 module _ (M : Meaning) (key : List ℕ) (pad : ℕ) (rs : List Record) where
   standing_push : (r : Record) → after_by M (standing M key pad rs) r None ≡ standing M key pad (rs ++ (r ∷ []))

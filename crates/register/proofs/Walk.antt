@@ -1,32 +1,30 @@
 -- The check's way through an image.
-use Rattle.std.proofs.Common.{◌≡◌, ℕ, zero, suc, ◌+◌, ◌-◌, ◌*◌, ◌≤◌, Bool, true, false, cond, eqb, leb, List, [], ◌∷◌, ◌++◌, length, get_or, take, drop, Some, None, Ok, Err, Option, Result, sym, refl, ap, ◌∙◌, subst, arith, length-drop, length-take-le, drop-drop, eq-eqb, ne_eqb}
+use Rattle.std.proofs.Common.{◌≡◌, ℕ, zero, suc, ◌+◌, ◌-◌, ◌*◌, ◌≤◌, Bool, true, false, cond, eqb, leb, List, [], ◌∷◌, ◌++◌, length, get_or, take, drop, Some, None, Ok, Err, Result, sym, refl, ap, ◌∙◌, subst, arith, length-drop, length-take-le, drop-drop, eq-eqb, ne_eqb}
 use Rattle.hashes.specs.Family.{Meaning}
 use Rattle.hashes.specs.Word.{word}
 use Rattle.register.specs.declared.fault.RecordFault.{RecordFault}
 use Rattle.register.specs.declared.fault.ImageFault.{ImageFault}
 use Rattle.register.specs.declared.fault.ImageFault.TheVariants.{Record as FaultyRecord, Framing, Code}
-use Rattle.register.specs.declared.image.Field.{Field as Place}
 use Rattle.register.specs.Records.{Record, Field, field, bytes_of}
 use Rattle.register.specs.Fields.{is_record, record_in, next_field, is_seal}
 use Rattle.register.specs.Known.{refusal}
 use Rattle.register.specs.Image.{Outcome, compares, faulty, seal_outcome, record_outcome, field_outcome, check_from, check}
-use Rattle.register.specs.Reading.{first_place, place_at, seal_in}
+use Rattle.register.specs.Reading.{Place, ReadsNext, first_place, place_at, seal_in, value_in}
 use Rattle.register.specs.View.{View, standing, answer, after}
 use Rattle.register.specs.Walking.{Answers, seal_answer}
 use Rattle.register.proofs.Firsts.{None_Some, Some_inj}
 use Rattle.register.proofs.Images.{decides_seal}
 use Rattle.register.proofs.Steps.{call_refused, call_taken}
 
-pub add_sub : (a b : ℕ) → a + b - a ≡ b
-add_sub a b = omega arith
+-- a field that a reader of the image gives, where it stands
+pub record Gives (image : List ℕ) (at : ℕ) (f : Place) : Type 0 where
+  pub within : at ≤ length image
+  pub found : place_at image at ≡ Some f
 
--- what the reader finds in the image that it holds
-pub found_at : (image held : List ℕ) (at : ℕ) (o : Option Place) → held ≡ image → o ≡ place_at held at → place_at image at ≡ o
-found_at image held at o same e = ap (λ i. place_at i at) (sym same) ∙ sym e
-
--- a seal field
-pub seal_read : (tag : ℕ) (value : List ℕ) (w : ℕ) → tag ≡ 0x53 → length value ≡ 9 → w ≡ word (drop 1 value) → Some (get_or value 0 0, w) ≡ seal_in tag value
-seal_read tag value w t n s = rw (eq-eqb tag 0x53 t, eq-eqb (length value) 9 n) (ap (λ x. Some (get_or value 0 0, x)) s)
+pub gives : (image held later : List ℕ) (at place next : ℕ) (f : Place) → held ≡ image → place ≡ at → place ≤ length held → ReadsNext held place (Some f) later next →
+    Gives image at f
+gives image held later at place next f same here within reads =
+    record { within = rw (← same, ← here) within; found = rw (← same, ← here) (sym reads.finds) }
 
 -- where the check stands: after some records, with the bytes from `at` on to go
 pub record Walked (M : Meaning) (key : List ℕ) (pad : ℕ) (image : List ℕ) (v : View M) (at : ℕ) : Type 0 where
@@ -35,9 +33,6 @@ pub record Walked (M : Meaning) (key : List ℕ) (pad : ℕ) (image : List ℕ) 
   pub stands : v ≡ standing M key pad before
   pub enough : length (drop at image) ≤ fuel
   pub same : check M.code image ≡ check_from fuel M.code before (drop at image) at
-
-pub walked_start : (M : Meaning) (key : List ℕ) (pad : ℕ) (image : List ℕ) (v : View M) → v ≡ standing M key pad [] → Walked M key pad image v 0
-walked_start M key pad image v e = record { fuel = length image; before = []; stands = e; enough = omega arith; same = refl }
 
 -- a field by its place, and as it is read
 pub record Link (bytes : List ℕ) (at : ℕ) (f : Place) : Type 0 where
@@ -95,15 +90,16 @@ walk_ends M key pad image v at w e = subst (λ o. Answers M key pad o (Err (Fram
     stops (suc fuel) = rw (none_link (drop at image) at e)
 
 -- a whole field
-module _ (image : List ℕ) (at : ℕ) (within : at ≤ length image) (f : Place) (e : place_at image at ≡ Some f) where
+module _ (image : List ℕ) (at : ℕ) (f : Place) (given : Gives image at f) where
   link : Link (drop at image) at f
-  link = some_link (drop at image) at f e
+  link = some_link (drop at image) at f given.found
 
-  pub next_place : f.place ≡ at + 3
-  next_place = link.place
+  -- where it begins
+  pub next_start : f.place - 3 ≡ at
+  next_start = omega (arith, link.place)
 
-  pub next_within : f.place + f.length ≤ length image
-  next_within = omega (arith, link.fits, link.place, length-drop at image, within)
+  next_within : f.place + f.length ≤ length image
+  next_within = omega (arith, link.fits, link.place, length-drop at image, given.within)
 
   read_next : next_field (drop at image) ≡ Some (field f.tag (take f.length (drop f.place image)), drop (f.place + f.length) image)
   read_next =
@@ -147,7 +143,7 @@ module _ (image : List ℕ) (at : ℕ) (within : at ≤ length image) (f : Place
         (st.0, st.1, st.2 ∙ rw (q, place, s))
 
     -- the register refuses the record
-    pub walk_refused : is_record (field f.tag (take f.length (drop f.place image))) ≡ true → (r : Record) → r ≡ record_in (field f.tag (take f.length (drop f.place image))) →
+    pub walk_refused : is_record (field f.tag (value_in image f)) ≡ true → (r : Record) → r ≡ record_in (field f.tag (value_in image f)) →
         (u : View M) (x : RecordFault) → Err x ≡ answer M v r → Answers M key pad (check M.code image) (Err (FaultyRecord x, at)) u
     unfolding value
     walk_refused q r s u x h =
@@ -156,7 +152,7 @@ module _ (image : List ℕ) (at : ℕ) (within : at ≤ length image) (f : Place
         subst (λ o. Answers M key pad o (Err (FaultyRecord x, at)) u) (sym (st.2 ∙ ap (record_outcome at _) row)) (refl, refl)
 
     -- the register takes it
-    pub walk_taken : is_record (field f.tag (take f.length (drop f.place image))) ≡ true → (r : Record) → r ≡ record_in (field f.tag (take f.length (drop f.place image))) →
+    pub walk_taken : is_record (field f.tag (value_in image f)) ≡ true → (r : Record) → r ≡ record_in (field f.tag (value_in image f)) →
         (u : View M) (n : ℕ) → Ok n ≡ answer M v r → u ≡ after M v r → Walked M key pad image u (f.place + f.length)
     unfolding value
     walk_taken q r s u n h k =
@@ -171,8 +167,8 @@ module _ (image : List ℕ) (at : ℕ) (within : at ≤ length image) (f : Place
         }
 
     -- a field that is no record's
-    pub walk_seal : is_record (field f.tag (take f.length (drop f.place image))) ≡ false →
-        Answers M key pad (check M.code image) (seal_answer (seal_in f.tag (take f.length (drop f.place image))) M.code at (f.place + f.length) (length image)) v
+    pub walk_seal : is_record (field f.tag (value_in image f)) ≡ false →
+        Answers M key pad (check M.code image) (seal_answer (seal_in f.tag (value_in image f)) M.code at (f.place + f.length) (length image)) v
     unfolding value
     walk_seal q =
         subst (λ o. Answers M key pad o (seal_answer (seal_in f.tag value) M.code at (f.place + f.length) (length image)) v) (sym (step.2 ∙ rw q)) (go (is_seal (field f.tag value)) refl)

@@ -1,5 +1,5 @@
 -- Fields written after a message.
-use Rattle.std.proofs.Common.{◌≡◌, ℕ, suc, ◌+◌, ◌-◌, ◌/◌, ◌%◌, ◌≤◌, cond, List, [], ◌∷◌, ◌++◌, length, get_or, take, drop, replicate, Some, None, Option, sym, refl, ap, ◌∙◌, append_assoc, arith, length-append, length-drop, length-take-le}
+use Rattle.std.proofs.Common.{◌≡◌, ℕ, ◌+◌, ◌-◌, ◌≤◌, cond, List, [], ◌∷◌, ◌++◌, length, take, drop, replicate, Some, None, Option, sym, refl, ap, ◌∙◌, append_assoc, arith, length-append, length-drop, length-take-le}
 use lib.ListN.{length-replicate}
 use lib.Seq.{drop-append-add, paste}
 use Rattle.std.proofs.lemmas.List.{take_at, drop-replicate}
@@ -7,7 +7,7 @@ use Rattle.std.proofs.lemmas.List.Edits.{paste_all, paste-paste}
 use Rattle.std.proofs.lemmas.Bool.{le-leb}
 use Rattle.hashes.specs.Family.{Meaning}
 use Rattle.register.specs.declared.fault.RecordFault.{RecordFault}
-use Rattle.register.specs.Records.{Record, zone, field_of, bytes_of, message}
+use Rattle.register.specs.Records.{Record, field_of, bytes_of, message}
 use Rattle.register.specs.Known.{known_of}
 use Rattle.register.specs.Known.{refusal}
 use Rattle.register.specs.Run.{Input, a_record, no_record, unread, step, step_by}
@@ -82,11 +82,3 @@ put_twice out at xs ys h =
     ∙ paste_all out at (xs ++ ys) (length xs + length ys) (sym l)
     ∙ ap (λ k. take at out ++ ((xs ++ ys) ++ drop (at + k) out)) (sym l)
     ∙ sym (put_fits out at (xs ++ ys) (omega (arith, l)))
-
--- a zone's field is its head and its name
-pub zone_head : (n : ℕ) (name b : List ℕ) → length name ≤ 40 → b ≡ (n / 256 ∷ n % 256 ∷ []) →
-    (1 ∷ 0 ∷ (2 + length name) ∷ get_or b 0 0 ∷ get_or b 1 0 ∷ []) ++ name ≡ bytes_of (field_of (zone n name))
-zone_head n name b m e =
-    let x : 0 ≡ suc (suc (length name)) / 256 = omega arith in
-    let y : 2 + length name ≡ suc (suc (length name)) % 256 = omega arith in
-    rw (e, ← x, ← y)

@@ -1,5 +1,5 @@
 -- What the check of an image answers, and which images it passes.
-use Rattle.std.specs.Prelude.{◌≡◌, ℕ, cond, List, [], length, Ok, Err, Result, ◌==◌}
+use Rattle.std.specs.Prelude.{◌≡◌, ℕ, Bool, cond, if◌then◌else◌, List, [], length, Ok, Err, Result, ◌==◌}
 use Rattle.hashes.specs.Family.{Meaning}
 use Rattle.hashes.specs.KeyFault.{Answer, taken, refused}
 use Rattle.hashes.specs.Word.{word}
@@ -16,8 +16,8 @@ pub data Verdict : Type 0 where
   faulted : (number offset : ℕ) → Verdict
 
 -- the code's answer as a verdict
-abbrev pub verdict_of : Result ℕ (ImageFault × ℕ) → Verdict
-verdict_of (Ok n) = says n
+abbrev pub verdict_of : Result Bool (ImageFault × ℕ) → Verdict
+verdict_of (Ok passed) = says (if passed then 1 else 0)
 verdict_of (Err e) = faulted (number_of_image_fault e.0) e.1
 
 -- The check passes an image under a key buffer: the buffer opens, and the image is that of a book's records, with bytes that write their seal.

@@ -1,5 +1,5 @@
 -- The first entry of a list that has a property.
-use Rattle.std.specs.Prelude.{Bool, cond, List, [], ◌∷◌, Some, None, Option}
+use Rattle.std.specs.Prelude.{List, ◌∷◌}
 use Rattle.std.specs.List.{AllByRecursion}
 
 -- a is the first entry with P
@@ -10,8 +10,3 @@ pub data First {A : Type 0} (P : A → Type 0) : List A → A → Type 0 where
 -- no entry has P
 abbrev pub NoneOf : {A : Type 0} → (A → Type 0) → List A → Type 0
 NoneOf P entries = AllByRecursion (λ a. ¬ P a) entries
-
--- the first entry that passes a test
-abbrev pub first_that : {A : Type 0} → (A → Bool) → List A → Option A
-first_that p [] = None
-first_that p (a ∷ rest) = cond (p a) (Some a) (first_that p rest)

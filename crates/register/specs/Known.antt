@@ -1,23 +1,19 @@
 -- The rows of the book as tests, on what is known of the records taken before.
-use Rattle.std.specs.Prelude.{ℕ, ◌+◌, Bool, true, false, not, ◌&&◌, ◌||◌, List, [], ◌∷◌, length, Some, None, Ok, Err, Option, Result, ◌==◌, nat_le, nat_lt}
+use Rattle.std.specs.Prelude.{ℕ, ◌+◌, Bool, false, not, ◌&&◌, ◌||◌, if◌then◌else◌, List, length, Some, None, Ok, Err, Option, Result, ◌==◌, nat_le, nat_lt}
+use Rattle.std.specs.List.{find, list_all, list_any}
 use Rattle.register.specs.declared.fault.RecordFault.{RecordFault}
 use Rattle.register.specs.declared.fault.RecordFault.TheVariants.{Range, Name, Repeated, Missing, Full}
 use Rattle.register.specs.Records.{Record, zone, point, rule, field_length, message}
-use Rattle.register.specs.First.{first_that}
 use Rattle.register.specs.Book.{limit, rows}
 
 abbrev pub within : ℕ → ℕ → ℕ → Bool
 within low high n = nat_le low n && nat_le n high
 
-abbrev pub all_that : (ℕ → Bool) → List ℕ → Bool
-all_that p [] = true
-all_that p (b ∷ bs) = p b && all_that p bs
-
 abbrev pub name_byte : ℕ → Bool
 name_byte b = within 0x20 0x7E b || b == 0x0A
 
 abbrev pub zone_name : List ℕ → Bool
-zone_name name = within 1 40 (length name) && all_that name_byte name
+zone_name name = within 1 40 (length name) && list_all name_byte name
 
 abbrev pub declares_zone : ℕ → Record → Bool
 declares_zone z (zone n name) = n == z
@@ -29,16 +25,11 @@ declares_point p (zone n name) = false
 declares_point p (point n z kind) = n == p
 declares_point p (rule z q) = false
 
--- some record passes a test
-abbrev pub any_record : (Record → Bool) → List Record → Bool
-any_record p [] = false
-any_record p (r ∷ rs) = p r || any_record p rs
-
 abbrev pub zone_declared : List Record → ℕ → Bool
-zone_declared before z = any_record (declares_zone z) before
+zone_declared before z = list_any (declares_zone z) before
 
 abbrev pub point_declared : List Record → ℕ → Bool
-point_declared before p = any_record (declares_point p) before
+point_declared before p = list_any (declares_point p) before
 
 -- what the rows ask of the records before: which zones and points are declared, and the length of the message
 pub record Known : Type 0 where
@@ -84,22 +75,30 @@ fits known r Full = full_fault known r
 
 -- the first row that fits, if any
 abbrev pub refusal_by : Known → Record → Option RecordFault
-refusal_by known r = first_that (fits known r) rows
+refusal_by known r = find (fits known r) rows
 
 abbrev pub refusal : List Record → Record → Option RecordFault
 refusal before r = refusal_by (known_of before) r
 
+-- the first row that fits a record whatever was taken before it, if any
+abbrev pub unsound : Record → Option RecordFault
+unsound r = if range_fault r then Some Range else (if name_fault r then Some Name else None)
+
 -- what the book answers to a record, by the row that refuses it, if any
-abbrev pub judgement : Option RecordFault → Result (Unit {0}) RecordFault
-judgement None = Ok tt
-judgement (Some f) = Err f
+abbrev pub judgement : Record → Option RecordFault → Result Record RecordFault
+judgement r None = Ok r
+judgement r (Some f) = Err f
+
+-- numbers that are declared, with one more
+abbrev pub with_number : (ℕ → Bool) → ℕ → ℕ → Bool
+with_number declared n k = declared k || (n == k)
 
 -- what is known with one zone, one point or one record more
 abbrev pub with_zone : Known → ℕ → Known
-with_zone known n = record { zones = λ z. known.zones z || (n == z); points = known.points; bytes = known.bytes }
+with_zone known n = record { zones = with_number known.zones n; points = known.points; bytes = known.bytes }
 
 abbrev pub with_point : Known → ℕ → Known
-with_point known n = record { zones = known.zones; points = λ p. known.points p || (n == p); bytes = known.bytes }
+with_point known n = record { zones = known.zones; points = with_number known.points n; bytes = known.bytes }
 
 abbrev pub with_declared : Known → Record → Known
 with_declared known (zone n name) = with_zone known n

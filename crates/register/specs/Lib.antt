@@ -8,7 +8,9 @@ pub mod Run
 pub mod View
 pub mod Writing
 pub mod Inputs
+pub mod Entries
 pub mod Values
+pub mod Encoded
 pub mod Image
 pub mod ImageMessage
 pub mod Reading

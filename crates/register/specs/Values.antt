@@ -1,10 +1,11 @@
 -- What the values of the code stand for: a record, a book and a register.
-use Rattle.std.specs.Prelude.{ℕ, Bool, false, slice_index_or}
+use Rattle.std.specs.Prelude.{ℕ, Bool}
 use Rattle.hashes.specs.Family.{Meaning}
 use Rattle.register.specs.declared.book.Book.{Book}
 use Rattle.register.specs.declared.record.SiteRecord.{SiteRecord}
 use Rattle.register.specs.declared.record.SiteRecord.TheVariants.{Zone, Point, Rule}
 use Rattle.register.specs.declared.register.Register.{Register}
+use Rattle.register.specs.Entries.{declared_in}
 use Rattle.register.specs.Records.{Record, zone, point, rule}
 use Rattle.register.specs.Known.{Known}
 use Rattle.register.specs.View.{View}
@@ -16,10 +17,10 @@ record_of (Rule in_zone drives) = rule in_zone drives
 
 -- whether a zone, or a point, is declared in a book
 abbrev pub zone_at : Book → ℕ → Bool
-zone_at book z = (slice_index_or book.zones z (record { declared = false })).declared
+zone_at book z = declared_in book.zones z
 
 abbrev pub point_at : Book → ℕ → Bool
-point_at book p = (slice_index_or book.points p (record { declared = false })).declared
+point_at book p = declared_in book.points p
 
 -- what is known in a book
 abbrev pub known_in : Book → Known

@@ -1,25 +1,103 @@
 // The site book: which zones and points are declared, and how long the message is.
 ghost use Rattle.std.specs.Prelude.{◌≤◌};
 
-pub(crate) mod calls;
+use crate::entries::Entries;
+use crate::fault::RecordFault;
+use crate::record::SiteRecord;
+use crate::sound::SoundRecord;
 
-#[derive(Clone, Copy, Drop)]
-pub(crate) struct ZoneEntry {
-    declared: bool,
-}
-
-#[derive(Clone, Copy, Drop)]
-pub(crate) struct PointEntry {
-    declared: bool,
-}
-
+// No `impl Model`: its value would be `Known`, which holds functions. A value needs a code, and no function has one.
 #[derive(Drop)]
 pub(crate) struct Book {
-    // The zones, each at its number.
-    zones: [ZoneEntry; 251],
-    // The points, each at its number.
-    points: [PointEntry; 1001],
+    zones: Entries<251>,
+    points: Entries<1001>,
     // The length of the message.
     len: usize,
     ghost within: { len ≤ 60000 },
+}
+
+impl Book {
+    ghost use Rattle.std.specs.Prelude.{◌≡◌, ◌+◌, []};
+    ghost use Rattle.register.specs.Known.{judgement, known_of, missing_fault, refusal_by, repeat_fault, with_declared, with_record};
+    ghost use Rattle.register.specs.Records.{field_length};
+    ghost use Rattle.register.specs.Values.{known_in, record_of};
+
+    // The book of a new register.
+    pub(crate) fn new() -> Self
+        ensures { known_in result ≡ known_of [] }
+    {
+        Book {
+            zones: Entries::new(),
+            points: Entries::new(),
+            len: 0,
+        }
+    }
+
+    // The length of the message.
+    pub(crate) fn len(&self) -> usize
+        ensures { result ≡ (known_in self.now).bytes }
+    {
+        self.len
+    }
+
+    // Whether what a record declares is declared already.
+    fn repeats(&self, sound: &SoundRecord) -> bool
+        ensures { result ≡ repeat_fault (known_in self.now) sound.now }
+    {
+        match sound.site {
+            SiteRecord::Zone { number, .. } => self.zones.is_declared(number),
+            SiteRecord::Point { number, .. } => self.points.is_declared(number),
+            SiteRecord::Rule { .. } => false,
+        }
+    }
+
+    // Whether a record names a zone or a point that is not declared.
+    fn misses(&self, sound: &SoundRecord) -> bool
+        ensures { result ≡ missing_fault (known_in self.now) sound.now }
+    {
+        match sound.site {
+            SiteRecord::Zone { .. } => false,
+            SiteRecord::Point { zone, .. } => !self.zones.is_declared(zone),
+            SiteRecord::Rule { zone, point } => {
+                !(self.zones.is_declared(zone) && self.points.is_declared(point))
+            }
+        }
+    }
+
+    // Refuses a record by the first row that fits.
+    pub(crate) fn admit<'a>(&self, record: SiteRecord<'a>) -> Result<SoundRecord<'a>, RecordFault>
+        ensures { result ≡ judgement (record_of «record».entry) (refusal_by (known_in self.now) (record_of «record».entry)) }
+    {
+        let sound = SoundRecord::try_from(record)?;
+        if self.repeats(&sound) {
+            return Err(RecordFault::Repeated);
+        }
+        if self.misses(&sound) {
+            return Err(RecordFault::Missing);
+        }
+        if self.len + sound.field_length() > 60_000 {
+            return Err(RecordFault::Full);
+        }
+        Ok(sound)
+    }
+
+    // Declares what a record declares.
+    fn declare(&mut self, sound: &SoundRecord)
+        ensures { known_in self.new ≡ with_declared (known_in self.old) sound.now }
+    {
+        match sound.site {
+            SiteRecord::Zone { number, .. } => self.zones.declare(number),
+            SiteRecord::Point { number, .. } => self.points.declare(number),
+            SiteRecord::Rule { .. } => {}
+        }
+    }
+
+    // Enters a record that no row refuses.
+    pub(crate) fn enter(&mut self, sound: &SoundRecord)
+        requires room { (known_in self.old).bytes + field_length sound.now ≤ 60000 }
+        ensures { known_in self.new ≡ with_record (known_in self.old) sound.now }
+    {
+        self.declare(sound);
+        self.len += sound.field_length();
+    }
 }

@@ -5,18 +5,18 @@ ghost use Rattle.std.specs.Prelude.{◌≡◌};
 use hashes::key_fault::KeyFault;
 
 // Why a record is refused.
-#[derive(Clone, Copy, Drop)]
+#[derive(Clone, Copy, Debug, PartialEq, Eq)]
 pub enum RecordFault {
     // A zone, a point or a kind is out of its range.
-    Range,
+    Range = 20,
     // The name is none that a panel can show.
-    Name,
+    Name = 21,
     // The zone or the point is declared already.
-    Repeated,
+    Repeated = 30,
     // A zone or a point that the record names is not declared.
-    Missing,
+    Missing = 31,
     // The message would be too long.
-    Full,
+    Full = 32,
 }
 
 impl RecordFault {
@@ -24,18 +24,12 @@ impl RecordFault {
     pub fn number(&self) -> u8
         ensures { result ≡ number_of_record_fault self.now }
     {
-        match self {
-            RecordFault::Range => 20,
-            RecordFault::Name => 21,
-            RecordFault::Repeated => 30,
-            RecordFault::Missing => 31,
-            RecordFault::Full => 32,
-        }
+        *self as u8
     }
 }
 
 // Why the check of an image comes to no answer.
-#[derive(Clone, Copy, Drop)]
+#[derive(Clone, Copy, Debug, PartialEq, Eq)]
 pub enum ImageFault {
     // The key buffer holds no key.
     Key(KeyFault),
@@ -52,6 +46,7 @@ impl ImageFault {
     pub fn number(&self) -> u8
         ensures { result ≡ number_of_image_fault self.now }
     {
+        // No number at the variants, since two hold a fault that has one.
         match self {
             ImageFault::Key(fault) => fault.number(),
             ImageFault::Record(fault) => fault.number(),

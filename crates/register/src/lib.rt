@@ -3,10 +3,13 @@
 
 mod book;
 pub mod check;
+mod entries;
 pub mod facts;
 pub mod fault;
 mod field;
+mod framing;
 mod image;
 pub mod output;
 pub mod record;
 pub mod register;
+mod sound;

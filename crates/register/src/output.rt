@@ -6,9 +6,10 @@ ghost use Rattle.std.specs.Prelude.{◌≡◌};
 pub fn put_bytes(out: &mut [u8], at: usize, bytes: &[u8])
     ensures { out.new ≡ put out.old at bytes.now }
 {
-    if at > out.len() || bytes.len() > out.len() - at {
-        return;
+    // Both halves have names, since what a half that `_` drops gives back is lost.
+    if let Some((_before, rest)) = out.split_at_mut_checked(at)
+        && let Some((part, _after)) = rest.split_at_mut_checked(bytes.len())
+    {
+        part.copy_from_slice(bytes);
     }
-    let part = &mut out[at..at + bytes.len()];
-    part.copy_from_slice(bytes);
 }

@@ -14,6 +14,7 @@ use hashes::family::Family;
 use hashes::key_fault::KeyFault;
 use hashes::word::word_of;
 
+// No `impl Model`: its value would be `View F.meaning`, and a `Value` cannot name a bound's member.
 #[derive(Drop)]
 pub struct Register<F: Family> {
     // The hash of the message, under way.
@@ -22,7 +23,7 @@ pub struct Register<F: Family> {
     book: Book,
 }
 
-// Key bytes, which are zeroed when the guard ends.
+// Key bytes, which are zeroed when the guard ends. Each call says itself that its buffer ends as zeros, since that is a slice of the caller's.
 struct KeyGuard<'a> {
     bytes: &'a mut [u8],
 }
@@ -40,14 +41,11 @@ impl Drop for KeyGuard<'_> {
 fn from_key<F: Family>(buffer: &[u8]) -> Result<Register<F>, KeyFault>
     ensures { opened (view F.meaning F.state) result ≡ opening F.meaning buffer.now }
 {
-    let n = F::key_len();
-    if buffer.len() < n {
-        return Err(KeyFault::Length);
-    }
-    let Some(pad) = word_of(&buffer[n..]) else {
-        return Err(KeyFault::Length);
-    };
-    let family = F::open(&buffer[..n])?;
+    let (key, pad) = buffer
+        .split_at_checked(F::key_len())
+        .ok_or(KeyFault::Length)?;
+    let pad = word_of(pad).ok_or(KeyFault::Length)?;
+    let family = F::open(key)?;
     Ok(Register {
         family,
         pad,
@@ -79,10 +77,10 @@ impl<F: Family> Register<F> {
         ensures writes { out.new ≡ output_after F.meaning (view F.meaning F.state self.old) (record_of «record».entry) out.old }
         ensures keeps { Keeps result self.old self.new }
     {
-        self.book.admit(record)?;
-        put_field(out, self.book.len(), record);
-        send(&mut self.family, record);
-        self.book.enter(record);
+        let sound = self.book.admit(record)?;
+        put_field(out, self.book.len(), &sound);
+        send(&mut self.family, &sound);
+        self.book.enter(&sound);
         Ok(self.book.len())
     }
 
@@ -104,7 +102,7 @@ impl<F: Family> Register<F> {
         self.apply(SiteRecord::Zone { number, name })
     }
 
-    // Declares a point.
+    // Declares a point. Its kind is a byte, as in a record.
     pub fn point(&mut self, number: u32, zone: u32, kind: u8) -> Result<usize, RecordFault>
         ensures answers { result ≡ answer F.meaning (view F.meaning F.state self.old) (Record.point number zone kind) }
         ensures leaves { view F.meaning F.state self.new ≡ after F.meaning (view F.meaning F.state self.old) (Record.point number zone kind) }

@@ -3,8 +3,7 @@
 #![tactic(auto)]
 
 mod inputs;
-mod refused;
-mod tally;
+mod known;
 mod texts;
 
 use std::io;
@@ -14,5 +13,5 @@ fn main(rt: HostRuntime) -> io::Result<()> {
     let mut tally = Tally::new();
     texts::run(&rt, &mut tally)?;
     inputs::run(&rt, &mut tally)?;
-    tally.close(&rt)
+    println!(rt; "{tally}")
 }

@@ -1,10 +1,11 @@
 // The division hash of messages with known answers.
-use crate::tally::Tally;
 use hashes::division::division_hash;
 use std::io;
+use std::io::Print;
+use tally::Tally;
 
 // Messages worked by hand, or with the definition alone.
-pub fn worked(rt: &HostRuntime, tally: &mut Tally) -> io::Result<()> {
+pub fn worked(rt: &impl Print, tally: &mut Tally) -> io::Result<()> {
     tally.word(rt, "division, p 1B, empty", division_hash(0x1B, &[]), 0x1B)?;
     tally.word(rt, "division, p 1B, 00", division_hash(0x1B, &[0]), 0x1B00)?;
     tally.word(rt, "division, p 1B, 01", division_hash(0x1B, &[1]), 0x1B1B)?;
@@ -23,16 +24,15 @@ fn checksum(p: u64, message: &[u8; 9]) -> u64 {
 // A checksum that takes each byte's low bit first, starts from ones and ends with a sum with ones. It is the one above of the
 // message with each byte's bits reversed and the first eight bytes inverted, itself reversed and inverted.
 fn reflected_checksum(p: u64, message: &[u8; 9]) -> u64 {
-    let mut reflected = [0u8; 9];
-    for i in 0..9usize {
-        let byte = message[i].reverse_bits();
-        reflected[i] = if i < 8 { !byte } else { byte };
+    let mut reflected = *message;
+    for (i, byte) in reflected.iter_mut().enumerate() {
+        *byte = byte.reverse_bits() ^ if i < 8 { 0xFF } else { 0 };
     }
     !checksum(p, &reflected).reverse_bits()
 }
 
 // The check values that the catalogue of checksums has over the bytes 123456789.
-pub fn checksums(rt: &HostRuntime, tally: &mut Tally) -> io::Result<()> {
+pub fn checksums(rt: &impl Print, tally: &mut Tally) -> io::Result<()> {
     let ecma = checksum(0x42F0E1EBA9EA3693, b"123456789");
     tally.word(rt, "CRC-64/ECMA-182, 123456789", ecma, 0x6C40DF5F0B497347)?;
     let iso = reflected_checksum(0x1B, b"123456789");
@@ -41,13 +41,13 @@ pub fn checksums(rt: &HostRuntime, tally: &mut Tally) -> io::Result<()> {
 
 // Writes i modulo 251 at each place i.
 pub fn count_up(message: &mut [u8]) {
-    for i in 0..message.len() {
-        message[i] = (i % 251) as u8;
+    for (i, byte) in message.iter_mut().enumerate() {
+        *byte = (i % 251) as u8;
     }
 }
 
 // A message of 60,000 bytes.
-pub fn long(rt: &HostRuntime, tally: &mut Tally) -> io::Result<()> {
+pub fn long(rt: &impl Print, tally: &mut Tally) -> io::Result<()> {
     let mut message = [0u8; 60000];
     count_up(&mut message);
     let hash = division_hash(0x42F0E1EBA9EA3693, &message);

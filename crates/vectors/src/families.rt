@@ -3,7 +3,6 @@ ghost use Rattle.hashes.specs.KeyFault.{hashing, opened, taken};
 ghost use Rattle.std.specs.Prelude.{◌≡◌, ◌++◌, Decides};
 
 use crate::division::count_up;
-use crate::tally::Tally;
 use hashes::division::Division;
 use hashes::evaluation::Evaluation;
 use hashes::family::Family;
@@ -11,6 +10,8 @@ use hashes::gather::Gather;
 use hashes::key_fault::KeyFault;
 use hashes::toeplitz::Toeplitz;
 use std::io;
+use std::io::Print;
+use tally::Tally;
 
 // The polynomial x^64 + 1B.
 const POLYNOMIAL: [u8; 8] = [0, 0, 0, 0, 0, 0, 0, 0x1B];
@@ -48,14 +49,14 @@ fn hash_parts<F: Family>(key: &[u8], first: &[u8], second: &[u8]) -> Result<u64,
 fn at_every_cut<F: Family>(key: &[u8], message: &[u8], known: u64) -> bool
     ensures { Decides result (hashing F.meaning key.now message.now ≡ taken known) }
 {
-    for cut in 0..message.len() + 1 {
-        match hash_parts::<F>(key, &message[..cut], &message[cut..]) {
-            Ok(hash) => {
-                if hash != known {
-                    return false;
-                }
-            }
-            Err(_) => return false,
+    // A `for`: with `all` over the cuts the proof did not close.
+    for cut in 0..=message.len() {
+        let (first, second) = message.split_at(cut);
+        let Ok(hash) = hash_parts::<F>(key, first, second) else {
+            return false;
+        };
+        if hash != known {
+            return false;
         }
     }
     true
@@ -63,24 +64,21 @@ fn at_every_cut<F: Family>(key: &[u8], message: &[u8], known: u64) -> bool
 
 // Hashes a message whole, and compares at every cut, straight and through the gather.
 fn run<F: Family>(
-    rt: &HostRuntime,
+    rt: &impl Print,
     tally: &mut Tally,
     what: &str,
     key: &[u8],
     message: &[u8],
     known: u64,
 ) -> io::Result<()> {
-    let hash = match hash_parts::<F>(key, message, &[]) {
-        Ok(hash) => hash,
-        Err(_) => !known,
-    };
+    let hash = hash_parts::<F>(key, message, &[]).unwrap_or(!known);
     let same = at_every_cut::<F>(key, message, known)
         && at_every_cut::<Gather<F>>(key, message, known);
     tally.word(rt, what, if same { hash } else { !known }, known)
 }
 
 // Short messages worked by hand.
-pub fn worked(rt: &HostRuntime, tally: &mut Tally) -> io::Result<()> {
+pub fn worked(rt: &impl Print, tally: &mut Tally) -> io::Result<()> {
     run::<Division>(rt, tally, "01, 1B, empty", &POLYNOMIAL, &[], 0x1B)?;
     run::<Division>(rt, tally, "01, 1B, 01", &POLYNOMIAL, &[1], 0x1B1B)?;
     run::<Toeplitz>(
@@ -119,7 +117,7 @@ pub fn worked(rt: &HostRuntime, tally: &mut Tally) -> io::Result<()> {
 }
 
 // A message of 150 bytes, more than twice what the gather holds back.
-pub fn longer(rt: &HostRuntime, tally: &mut Tally) -> io::Result<()> {
+pub fn longer(rt: &impl Print, tally: &mut Tally) -> io::Result<()> {
     let mut message = [0u8; 150];
     count_up(&mut message);
     run::<Division>(
@@ -148,23 +146,20 @@ pub fn longer(rt: &HostRuntime, tally: &mut Tally) -> io::Result<()> {
     )
 }
 
-// A string that is no key, and the number of its refusal.
+// A string that is no key, and the number of its refusal. The number, not the fault, so that it is compared.
 fn refuse<F: Family>(
-    rt: &HostRuntime,
+    rt: &impl Print,
     tally: &mut Tally,
     what: &str,
     key: &[u8],
     known: u8,
 ) -> io::Result<()> {
-    let number = match hash_parts::<Gather<F>>(key, &[], &[]) {
-        Ok(_) => 0,
-        Err(fault) => fault.number(),
-    };
+    let number = hash_parts::<Gather<F>>(key, &[], &[]).map_or_else(|fault| fault.number(), |_| 0);
     let verdict = tally.verdict(number == known);
     println!(rt; "{what}: refused {number} {verdict}")
 }
 
-pub fn refusals(rt: &HostRuntime, tally: &mut Tally) -> io::Result<()> {
+pub fn refusals(rt: &impl Print, tally: &mut Tally) -> io::Result<()> {
     refuse::<Division>(rt, tally, "01, 7 bytes", &[0; 7], 1)?;
     refuse::<Division>(rt, tally, "01, 5", &[0, 0, 0, 0, 0, 0, 0, 5], 3)?;
     refuse::<Toeplitz>(rt, tally, "02, 8 bytes", &POLYNOMIAL, 1)?;

@@ -1,10 +1,11 @@
 // Words with known answers of the key check.
-use crate::tally::Tally;
 use hashes::irreducible::is_irreducible;
 use std::io;
+use std::io::Print;
+use tally::Tally;
 
 // Checks one word, and prints the polynomial x^64 + word and what it is.
-fn check(rt: &HostRuntime, tally: &mut Tally, word: u64, known: bool) -> io::Result<()> {
+fn check(rt: &impl Print, tally: &mut Tally, word: u64, known: bool) -> io::Result<()> {
     let irreducible = is_irreducible(word);
     let verdict = tally.verdict(irreducible == known);
     let kind = if irreducible {
@@ -16,14 +17,14 @@ fn check(rt: &HostRuntime, tally: &mut Tally, word: u64, known: bool) -> io::Res
 }
 
 // Polynomials from public tables.
-pub fn irreducible(rt: &HostRuntime, tally: &mut Tally) -> io::Result<()> {
+pub fn irreducible(rt: &impl Print, tally: &mut Tally) -> io::Result<()> {
     check(rt, tally, 0x1B, true)?;
     check(rt, tally, 0x1D, true)?;
     check(rt, tally, 0xB000000000000001, true)?;
     check(rt, tally, 0xAD93D23594C935A9, true)
 }
 
-pub fn reducible(rt: &HostRuntime, tally: &mut Tally) -> io::Result<()> {
+pub fn reducible(rt: &impl Print, tally: &mut Tally) -> io::Result<()> {
     // The square of x^32 + x + 1.
     check(rt, tally, 0x5, false)?;
     // Two different irreducible factors of degree 32, so that x^(2^64) = x holds: x^32 + AF and x^32 + 8D.

@@ -3,12 +3,13 @@ use crate::table::{
     BLANKS, BlankLine, POINTS, PointLine, REFUSED, RULES, RefusedLine, RuleLine, SAMPLES, ZONES,
     ZoneLine,
 };
-use crate::tally::Tally;
 use line_reader::line::Line;
 use line_reader::reader::{decode, read_line};
 use std::io;
+use std::io::Print;
+use tally::Tally;
 
-fn zone(rt: &HostRuntime, tally: &mut Tally, expected: &ZoneLine) -> io::Result<()> {
+fn zone(rt: &impl Print, tally: &mut Tally, expected: &ZoneLine) -> io::Result<()> {
     let what = expected.line;
     match read_line(what.as_bytes()) {
         Ok(Line::Zone { number, name }) => {
@@ -22,7 +23,7 @@ fn zone(rt: &HostRuntime, tally: &mut Tally, expected: &ZoneLine) -> io::Result<
     }
 }
 
-fn point(rt: &HostRuntime, tally: &mut Tally, expected: &PointLine) -> io::Result<()> {
+fn point(rt: &impl Print, tally: &mut Tally, expected: &PointLine) -> io::Result<()> {
     let what = expected.line;
     match read_line(what.as_bytes()) {
         Ok(Line::Point { number, zone, kind }) => {
@@ -35,7 +36,7 @@ fn point(rt: &HostRuntime, tally: &mut Tally, expected: &PointLine) -> io::Resul
     }
 }
 
-fn rule(rt: &HostRuntime, tally: &mut Tally, expected: &RuleLine) -> io::Result<()> {
+fn rule(rt: &impl Print, tally: &mut Tally, expected: &RuleLine) -> io::Result<()> {
     let what = expected.line;
     match read_line(what.as_bytes()) {
         Ok(Line::Rule { zone, point }) => {
@@ -46,7 +47,7 @@ fn rule(rt: &HostRuntime, tally: &mut Tally, expected: &RuleLine) -> io::Result<
     }
 }
 
-fn blank(rt: &HostRuntime, tally: &mut Tally, expected: &BlankLine) -> io::Result<()> {
+fn blank(rt: &impl Print, tally: &mut Tally, expected: &BlankLine) -> io::Result<()> {
     let what = expected.what;
     match read_line(expected.line) {
         Ok(Line::Blank) => {
@@ -57,40 +58,35 @@ fn blank(rt: &HostRuntime, tally: &mut Tally, expected: &BlankLine) -> io::Resul
     }
 }
 
-fn refused(rt: &HostRuntime, tally: &mut Tally, expected: &RefusedLine) -> io::Result<()> {
+fn refused(rt: &impl Print, tally: &mut Tally, expected: &RefusedLine) -> io::Result<()> {
     let what = expected.what;
-    match read_line(expected.line) {
-        Ok(_) => tally.line(rt, what, false),
-        Err((fault, column)) => {
-            let number = fault.number();
-            let verdict = tally.verdict(number == expected.number && column == expected.column);
+    match refusal(expected.line) {
+        None => tally.line(rt, what, false),
+        Some((number, column)) => {
+            let verdict = tally.verdict((number, column) == (expected.number, expected.column));
             println!(rt; "{what}: {number} at column {column}, {verdict}")
         }
     }
 }
 
-// Whether every beginning of the line but the empty one is refused by 11 at its own length.
-fn breaks_off(line: &[u8]) -> bool {
-    for len in 1..line.len() {
-        match read_line(&line[..len]) {
-            Ok(_) => return false,
-            Err((fault, column)) => {
-                if fault.number() != 11 || column != len {
-                    return false;
-                }
-            }
-        }
-    }
-    true
+// The number and the column of the refusal, if the line is refused.
+fn refusal(line: &[u8]) -> Option<(u8, usize)> {
+    let (fault, column) = read_line(line).err()?;
+    Some((fault.number(), column))
 }
 
-fn beginnings(rt: &HostRuntime, tally: &mut Tally, what: &str) -> io::Result<()> {
+// Whether every beginning of the line but the empty one is refused by 11 at its own length.
+fn breaks_off(line: &[u8]) -> bool {
+    (1..line.len()).all(|len| refusal(&line[..len]) == Some((11, len)))
+}
+
+fn beginnings(rt: &impl Print, tally: &mut Tally, what: &str) -> io::Result<()> {
     let count = what.len().saturating_sub(1);
     let verdict = tally.verdict(breaks_off(what.as_bytes()));
     println!(rt; "{what}: {count} beginnings, {verdict}")
 }
 
-pub fn run(rt: &HostRuntime, tally: &mut Tally) -> io::Result<()> {
+pub fn run(rt: &impl Print, tally: &mut Tally) -> io::Result<()> {
     for expected in &ZONES {
         zone(rt, tally, expected)?;
     }

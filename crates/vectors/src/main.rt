@@ -1,6 +1,7 @@
 // Hashes messages and reads lines with known answers, and compares: a line for each, what went in and what came out, and a closing count.
 #![tactic(auto)]
 
+mod buffers;
 mod division;
 mod families;
 mod images;
@@ -9,7 +10,6 @@ mod limits;
 mod lines;
 mod sites;
 mod table;
-mod tally;
 
 use std::io;
 use tally::Tally;
@@ -28,5 +28,5 @@ fn main(rt: HostRuntime) -> io::Result<()> {
     sites::run(&rt, &mut tally)?;
     limits::run(&rt, &mut tally)?;
     images::run(&rt, &mut tally)?;
-    tally.close(&rt)
+    println!(rt; "{tally}")
 }

@@ -1,5 +1,5 @@
 // Sites sealed by calls, two at a time, by each family through the gather: every answer and both seals.
-use crate::tally::Tally;
+use crate::buffers;
 use hashes::division::Division;
 use hashes::evaluation::Evaluation;
 use hashes::family::Family;
@@ -9,6 +9,8 @@ use line_reader::calls::Call;
 use line_reader::fault::LineFault;
 use line_reader::handover::handover;
 use std::io;
+use std::io::Print;
+use tally::Tally;
 
 // A zone with a point and a rule, by lines, with lines that are refused between them.
 const BY_LINES: [Call; 7] = [
@@ -21,208 +23,133 @@ const BY_LINES: [Call; 7] = [
     Call::Line(b""),
 ];
 
-// What its calls answer: 0 and the message's length, or a number and a column.
-const LINE_ANSWERS: [(u8, usize); 7] = [
-    (0, 0),
-    (0, 6),
-    (12, 10),
-    (0, 14),
-    (30, 0),
-    (0, 21),
-    (0, 21),
+// What a call answers: the message's length, or a number and a column. The number is compared, not the fault.
+type Answer = Result<usize, (u8, usize)>;
+
+// Beside the calls and not with them, since sealing takes the calls and the places for their answers as slices of their own.
+const LINE_ANSWERS: [Answer; 7] = [
+    Ok(0),
+    Ok(6),
+    Err((12, 10)),
+    Ok(14),
+    Err((30, 0)),
+    Ok(21),
+    Ok(21),
 ];
 
-// The same records by record calls.
-const BY_RECORDS: [Call; 7] = [
-    Call::Zone {
-        number: 251,
-        name: b"A",
-    },
-    Call::Zone {
-        number: 7,
-        name: b"A",
-    },
-    Call::Zone {
-        number: 8,
-        name: b"",
-    },
-    Call::Point {
-        number: 3,
-        zone: 7,
-        kind: 2,
-    },
-    Call::Rule { zone: 7, point: 4 },
-    Call::Rule { zone: 7, point: 3 },
-    Call::Point {
-        number: 4,
-        zone: 7,
-        kind: 5,
-    },
-];
-
-const RECORD_ANSWERS: [(u8, usize); 7] = [
-    (20, 0),
-    (0, 6),
-    (21, 0),
-    (0, 14),
-    (31, 0),
-    (0, 21),
-    (20, 0),
-];
-
-// The same with another name.
-const OTHER_NAME: [Call; 7] = [
-    Call::Zone {
-        number: 251,
-        name: b"A",
-    },
-    Call::Zone {
-        number: 7,
-        name: b"B",
-    },
-    Call::Zone {
-        number: 8,
-        name: b"",
-    },
-    Call::Point {
-        number: 3,
-        zone: 7,
-        kind: 2,
-    },
-    Call::Rule { zone: 7, point: 4 },
-    Call::Rule { zone: 7, point: 3 },
-    Call::Point {
-        number: 4,
-        zone: 7,
-        kind: 5,
-    },
-];
-
-fn answer_of(answer: Result<usize, LineFault>) -> (u8, usize) {
-    match answer {
-        Ok(length) => (0, length),
-        Err(fault) => (fault.number(), fault.column()),
-    }
+// The same records by record calls, with a name for the zone.
+fn by_records(name: &[u8]) -> [Call<'_>; 7] {
+    [
+        Call::Zone {
+            number: 251,
+            name: b"A",
+        },
+        Call::Zone { number: 7, name },
+        Call::Zone {
+            number: 8,
+            name: b"",
+        },
+        Call::Point {
+            number: 3,
+            zone: 7,
+            kind: 2,
+        },
+        Call::Rule { zone: 7, point: 4 },
+        Call::Rule { zone: 7, point: 3 },
+        Call::Point {
+            number: 4,
+            zone: 7,
+            kind: 5,
+        },
+    ]
 }
 
-fn as_known(answers: &[Result<usize, LineFault>], known: &[(u8, usize)]) -> bool {
-    if answers.len() != known.len() {
-        return false;
-    }
-    for i in 0..answers.len() {
-        let (number, value) = answer_of(answers[i]);
-        let (known_number, known_value) = known[i];
-        if number != known_number || value != known_value {
-            return false;
-        }
-    }
-    true
+// What these calls answer, beside them for the same reason.
+const RECORD_ANSWERS: [Answer; 7] = [
+    Err((20, 0)),
+    Ok(6),
+    Err((21, 0)),
+    Ok(14),
+    Err((31, 0)),
+    Ok(21),
+    Err((20, 0)),
+];
+
+// An answer by its numbers.
+fn by_numbers(answer: &Result<usize, LineFault>) -> Answer {
+    answer.map_err(|fault| (fault.number(), fault.column()))
 }
 
-// Seals the site by lines and another by the same key and pad, and compares all answers and both seals.
-fn compare<F: Family>(
-    rt: &HostRuntime,
+fn as_known(answers: &[Result<usize, LineFault>], known: &[Answer]) -> bool {
+    answers.iter().map(by_numbers).eq(known.iter().copied())
+}
+
+// Seals the site by lines and another by the same key buffer, and compares all answers and both seals.
+fn compare<F: Family, const N: usize>(
+    rt: &impl Print,
     tally: &mut Tally,
     what: &str,
-    buffer: &mut [u8],
-    buffer2: &mut [u8],
+    key: [u8; N],
     calls: &[Call],
     known: (u64, u64),
 ) -> io::Result<()> {
+    let mut buffer = key;
+    let mut buffer2 = key;
     let mut answers: [Result<usize, LineFault>; 7] = [Ok(0); 7];
     let mut answers2: [Result<usize, LineFault>; 7] = [Ok(0); 7];
     let (first, second) = handover::<Gather<F>>(
-        buffer,
+        &mut buffer,
         &BY_LINES,
         &mut answers,
-        buffer2,
+        &mut buffer2,
         calls,
         &mut answers2,
     );
-    let seal = first.unwrap_or(!known.0);
-    let seal2 = second.unwrap_or(!known.1);
+    let seals = (first.unwrap_or(!known.0), second.unwrap_or(!known.1));
     let same = as_known(&answers, &LINE_ANSWERS)
         && as_known(&answers2, &RECORD_ANSWERS)
-        && seal == known.0
-        && seal2 == known.1;
+        && seals == known;
     let verdict = tally.verdict(same);
+    let (seal, seal2) = seals;
     println!(rt; "{what}: {seal:016X} {seal2:016X} {verdict}")
 }
 
-// Key buffers: the key, and then the pad 0102030405060708.
-const DIVISION: [u8; 16] = [0, 0, 0, 0, 0, 0, 0, 0x1B, 1, 2, 3, 4, 5, 6, 7, 8];
+// By one family the same site, and then one with another name.
+fn pair<F: Family, const N: usize>(
+    rt: &impl Print,
+    tally: &mut Tally,
+    texts: (&str, &str),
+    key: [u8; N],
+    seal: u64,
+    other: u64,
+) -> io::Result<()> {
+    compare::<F, _>(rt, tally, texts.0, key, &by_records(b"A"), (seal, seal))?;
+    compare::<F, _>(rt, tally, texts.1, key, &by_records(b"B"), (seal, other))
+}
 
-const TOEPLITZ: [u8; 24] = [
-    0, 0, 0, 0, 0, 0, 0, 0x1B, 0, 0, 0, 0, 0, 0, 0, 1, 1, 2, 3, 4, 5, 6, 7, 8,
-];
-
-const EVALUATION: [u8; 16] = [0, 0, 0, 0, 0, 0, 0, 2, 1, 2, 3, 4, 5, 6, 7, 8];
-
-pub fn run(rt: &HostRuntime, tally: &mut Tally) -> io::Result<()> {
-    let mut a = DIVISION;
-    let mut b = DIVISION;
-    compare::<Division>(
+pub fn run(rt: &impl Print, tally: &mut Tally) -> io::Result<()> {
+    pair::<Division, _>(
         rt,
         tally,
-        "01, the same site",
-        &mut a,
-        &mut b,
-        &BY_RECORDS,
-        (0x30B8AD8E2051568B, 0x30B8AD8E2051568B),
+        ("01, the same site", "01, another name"),
+        buffers::DIVISION,
+        0x30B8AD8E2051568B,
+        0xFFB8AD8E205156A6,
     )?;
-    let mut a = DIVISION;
-    let mut b = DIVISION;
-    compare::<Division>(
+    pair::<Toeplitz, _>(
         rt,
         tally,
-        "01, another name",
-        &mut a,
-        &mut b,
-        &OTHER_NAME,
-        (0x30B8AD8E2051568B, 0xFFB8AD8E205156A6),
+        ("02, the same site", "02, another name"),
+        buffers::TOEPLITZ,
+        0x07CA0D120579C6A8,
+        0x07CA0D12057FC6A8,
     )?;
-    let mut a = TOEPLITZ;
-    let mut b = TOEPLITZ;
-    compare::<Toeplitz>(
+    pair::<Evaluation, _>(
         rt,
         tally,
-        "02, the same site",
-        &mut a,
-        &mut b,
-        &BY_RECORDS,
-        (0x07CA0D120579C6A8, 0x07CA0D120579C6A8),
-    )?;
-    let mut a = TOEPLITZ;
-    let mut b = TOEPLITZ;
-    compare::<Toeplitz>(
-        rt,
-        tally,
-        "02, another name",
-        &mut a,
-        &mut b,
-        &OTHER_NAME,
-        (0x07CA0D120579C6A8, 0x07CA0D12057FC6A8),
-    )?;
-    let mut a = EVALUATION;
-    let mut b = EVALUATION;
-    compare::<Evaluation>(
-        rt,
-        tally,
-        "03, the same site",
-        &mut a,
-        &mut b,
-        &BY_RECORDS,
-        (0x1502190424061B18, 0x1502190424061B18),
-    )?;
-    let mut a = EVALUATION;
-    let mut b = EVALUATION;
-    compare::<Evaluation>(
-        rt,
-        tally,
-        "03, another name",
-        &mut a,
-        &mut b,
-        &OTHER_NAME,
-        (0x1502190424061B18, 0x15021904241E1B18),
+        ("03, the same site", "03, another name"),
+        buffers::EVALUATION,
+        0x1502190424061B18,
+        0x15021904241E1B18,
     )
 }

@@ -1,13 +1,15 @@
 // Lines of a site file with the readings that they must have, worked out by hand.
 
 // A zone line, its number, and the bytes of its name.
+#[derive(Clone, Copy, Debug, PartialEq, Eq)]
 pub struct ZoneLine {
     pub line: &'static str,
     pub number: u32,
     pub name: &'static [u8],
 }
 
-// A point line, its number, its zone, and the number of its kind.
+// A point line, its number, its zone, and the number of its kind, not the kind, so that its number is compared.
+#[derive(Clone, Copy, Debug, PartialEq, Eq)]
 pub struct PointLine {
     pub line: &'static str,
     pub number: u32,
@@ -16,6 +18,7 @@ pub struct PointLine {
 }
 
 // A rule line, its zone and its point.
+#[derive(Clone, Copy, Debug, PartialEq, Eq)]
 pub struct RuleLine {
     pub line: &'static str,
     pub zone: u32,
@@ -23,12 +26,14 @@ pub struct RuleLine {
 }
 
 // A line that says nothing.
+#[derive(Clone, Copy, Debug, PartialEq, Eq)]
 pub struct BlankLine {
     pub what: &'static str,
     pub line: &'static [u8],
 }
 
-// A line that is refused, by which number and at which column.
+// A line that is refused, by which number and at which column. The number, not the fault, so that it is compared.
+#[derive(Clone, Copy, Debug, PartialEq, Eq)]
 pub struct RefusedLine {
     pub what: &'static str,
     pub line: &'static [u8],

@@ -15,15 +15,13 @@ loop-i-preserved g c =
     let M = g.F.Family.meaning in
     let answers = c.loop-i.answers in
     let i = c.loop-i.i in
-    let size = length-map c.args.answers.now line_reply in (
-      progress_next M _ _ _ c.args.calls.now i _ (map line_reply c.args.answers.now) (map line_reply answers) (map line_reply c.if-i-answers.answers)
-          (line_reply c.serve-answer.result) c.loop-i-test.true c.loop-i.invariant.0 c.serve-answer.ensures.answers c.serve-answer.ensures.leaves
-          (elim c.if-i-answers.branch [
-            | then-i-answers w ↦ inl (omega (arith, size, c.loop-i.invariant.1, w.if-i-answers.true), ap (map line_reply) w.answers-is ∙ map-set line_reply answers i c.serve-answer.result)
-            | else-i-answers w ↦ inr (omega (arith, size, c.loop-i.invariant.1, w.if-i-answers.false), ap (map line_reply) w.answers-is)
-          ]),
-      c.if-i-answers.auto.answers ∙ c.loop-i.invariant.1,
-    )
+    let size = length-map c.args.answers.now line_reply in
+    progress_next M _ _ _ c.args.calls.now i _ (map line_reply c.args.answers.now) (map line_reply answers) (map line_reply c.if-i-answers.answers)
+    (line_reply c.serve-answer.result) c.loop-i-test.true c.loop-i.invariant c.serve-answer.ensures.answers c.serve-answer.ensures.leaves
+    (elim c.if-i-answers.branch [
+      | then-i-answers w ↦ inl (omega (arith, size, c.loop-i.auto.answers, w.if-i-answers.true), ap (map line_reply) w.answers-is ∙ map-set line_reply answers i c.serve-answer.result)
+      | else-i-answers w ↦ inr (omega (arith, size, c.loop-i.auto.answers, w.if-i-answers.false), ap (map line_reply) w.answers-is)
+    ])
 
 pub returns : goal.returns
 returns g c =
@@ -32,7 +30,7 @@ returns g c =
     let calls = c.args.calls.now in
     let opens = c.in_ok-register.ensures.opens in
     let all = take_all c.loop-i.i calls c.loop-i-test.false in
-    let end = c.loop-i.invariant.0 (key_of M buffer) (pad_of M buffer) (opened_is M buffer _ opens) in
+    let end = c.loop-i.invariant (key_of M buffer) (pad_of M buffer) (opened_is M buffer _ opens) in
     record {
       seals =
           ap taken (c.close.ensures ∙ ap (seal M) end.0 ∙ ap (λ cs. sealed M (key_of M buffer) (pad_of M buffer) (records_of cs)) all)

@@ -1,4 +1,4 @@
-use Rattle.std.proofs.Common.{◌≡◌, map, length, take}
+use Rattle.std.proofs.Common.{map, take}
 use Rattle.register.specs.Values.{view}
 use Rattle.line_reader.specs.Calls.{line_reply}
 use Rattle.line_reader.proofs.Progress.{Progress}
@@ -10,4 +10,3 @@ invariant-loop-i g l =
     let M = g.F.Family.meaning in
     let st = g.F.Family.state in
     Progress M (view M st l.initial.register) (view M st l.register) (take l.i l.calls) (map line_reply l.initial.answers) (map line_reply l.answers)
-    × (length l.answers ≡ length l.initial.answers)

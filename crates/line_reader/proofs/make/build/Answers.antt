@@ -17,8 +17,8 @@ use Rattle.line_reader.proofs.make.build.Goals.{then-at-out-via-then-at-out, the
 abbrev unmade_in : ℕ → ℕ → ℕ → ℕ → Making
 unmade_in number line column room = unmade room number line column
 
-pub returns-in_err-send_lines : goal.returns-in_err-send_lines
-returns-in_err-send_lines g c =
+pub returns-in_err-send_lines-clause-makes : goal.returns-in_err-send_lines-clause-makes
+returns-in_err-send_lines-clause-makes g c =
     let M = g.F.Family.meaning in
     let buffer = c.args.buffer.now in
     let text = c.args.text.now in
@@ -27,16 +27,12 @@ returns-in_err-send_lines g c =
     let s = c.in_err-send_lines.ensures.sends (key_of M buffer) (pad_of M buffer) (opened_is M buffer _ o) c.requires in
     let kept : length c.send_lines.new.out ≡ room = omega arith in
     let p = err_from_is_err_and c.from_residual-in_err-send_lines.result c.from_residual-in_err-send_lines.ensures.1 in
-    record {
-      makes =
-          ap (λ (r : Result ℕ MakeFault). wiped r c.send_lines.new.out) (p.1 ∙ ap Err p.2)
-          ∙ ap (unmade_in _ _ _) kept
-          ∙ sym (opened_made M buffer text room _ _ o s);
-      cleared = c.open.ensures.wiped;
-    }
+    ap (λ (r : Result ℕ MakeFault). wiped r c.send_lines.new.out) (p.1 ∙ ap Err p.2)
+    ∙ ap (unmade_in _ _ _) kept
+    ∙ sym (opened_made M buffer text room _ _ o s)
 
-pub returns-then-at-out : goal.returns-then-at-out
-returns-then-at-out g c =
+pub returns-then-at-out-clause-makes : goal.returns-then-at-out-clause-makes
+returns-then-at-out-clause-makes g c =
     let M = g.F.Family.meaning in
     let buffer = c.args.buffer.now in
     let text = c.args.text.now in
@@ -51,15 +47,11 @@ returns-then-at-out g c =
       | then-at-out-via-then-at-out w ↦ omega (arith, w.if-at-out.true, kept)
       | then-at-out-via-else-at-out+then-out-at-lt12 w ↦ omega (arith, w.if-at-out.false, w.if-out-at-lt12.true, kept)
     ] in
-    record {
-      makes =
-          ap (unmade_in 50 0 0) kept
-          ∙ sym (opened_made M buffer text room _ _ o s.1 ∙ making_full M (key_of M buffer) (pad_of M buffer) room s.0 (omega (arith, full, bytes)));
-      cleared = c.open.ensures.wiped;
-    }
+    ap (unmade_in 50 0 0) kept
+    ∙ sym (opened_made M buffer text room _ _ o s.1 ∙ making_full M (key_of M buffer) (pad_of M buffer) room s.0 (omega (arith, full, bytes)))
 
-pub returns : goal.returns
-returns g c =
+pub returns-clause-makes : goal.returns-clause-makes
+returns-clause-makes g c =
     let M = g.F.Family.meaning in
     let buffer = c.args.buffer.now in
     let text = c.args.text.now in
@@ -76,11 +68,7 @@ returns g c =
     rw (c.to_be_bytes.ensures, c.code.ensures, sealing) in
     let putting : c.put_bytes.new.out ≡ put c.send_lines.new.out (length (message s.0)) (bytes_of (seal_field M.code (eight (sealed M (key_of M buffer) (pad_of M buffer) s.0)))) =
     c.put_bytes.ensures ∙ ap₂ (λ (n : ℕ) (x : List ℕ). put c.send_lines.new.out n x) bytes field in
-    record {
-      makes =
-          ap (λ (n : ℕ). wiped (Ok (n + 12)) c.put_bytes.new.out) bytes
-          ∙ making_fits M (key_of M buffer) (pad_of M buffer) room s.0 c.send_lines.new.out _ s.3
-          (omega (arith, bytes, kept, c.if-at-out.false, c.if-out-at-lt12.false)) putting
-          ∙ sym (opened_made M buffer text room _ _ o s.1);
-      cleared = c.open.ensures.wiped;
-    }
+    ap (λ (n : ℕ). wiped (Ok (n + 12)) c.put_bytes.new.out) bytes
+    ∙ making_fits M (key_of M buffer) (pad_of M buffer) room s.0 c.send_lines.new.out _ s.3
+    (omega (arith, bytes, kept, c.if-at-out.false, c.if-out-at-lt12.false)) putting
+    ∙ sym (opened_made M buffer text room _ _ o s.1)

@@ -1,55 +1,31 @@
--- Each line is cut out and sent, and the rest of the text is left.
-use Rattle.std.proofs.Common.{◌≡◌, suc, ◌-◌, ◌<◌, ◌≤◌, ◌∷◌, length, take, drop, refl, ap, ◌∙◌, add-one, arith}
-use Rattle.register.specs.Values.{view}
-use Rattle.line_reader.specs.Texts.{lines_of}
-use Rattle.line_reader.proofs.Cuts.{line_between, drop_end}
-use Rattle.line_reader.proofs.Sendings.{sending_start, sending_stops, sending_goes, sending_ends}
+-- Each line is taken off and sent, and what is left is a shorter text.
+use Rattle.std.proofs.Common.{◌≡◌, ◌+◌, Err, ap, ◌∙◌, rules}
+use Rattle.line_reader.specs.declared.fault.MakeFault.TheVariants.{Line}
+use Rattle.line_reader.specs.Calls.{line_reply}
+use Rattle.register.proofs.Results.{mapped_err, mapped_ok}
+use Rattle.line_reader.proofs.Sendings.{sending_stops, sending_goes, sending_ends}
 use Rattle.line_reader.proofs.make.send_lines.Goals as goal
-use Rattle.line_reader.proofs.make.send_lines.Goals.{then-end-text, else-end-text}
 
-pub loop-at-init : goal.loop-at-init
-loop-at-init g c =
-    (omega arith, omega arith, refl, λ key pad e z. sending_start g.F.Family.meaning key pad c.args.text.now (length c.args.out.now) _ c.args.out.now e refl z)
+pub loop-i-preserved : goal.loop-i-preserved
+loop-i-preserved g c =
+    let sent = c.line_into.ensures in
+    let taken = mapped_ok _ _ _ _ c.map_err.ensures.cases c.in_ok-map_err.was in
+    let s = c.in-Some.ensures.steps in
+    λ key pad e z.
+    rw s.2
+    (sending_goes (c.loop-i.invariant key pad e z) c.in-Some.line.now c.next.new.self.iter.rest.now s.0.0 _ _ _
+    (ap line_reply taken ∙ sent.answers) sent.leaves sent.writes)
 
-pub returns-in-Err : goal.returns-in-Err
-returns-in-Err g c = record {
-  sends = λ key pad e z.
-      let M = g.F.Family.meaning in
-      let text = c.args.text.now in
-      let at = c.loop-at.at in
-      let end = c.line_end-end.result in
-      let r = c.line_end-end.ensures in
-      let cut : lines_of (drop at text) ≡ take (end - at) (drop at text) ∷ lines_of (drop (suc end) text) = line_between text at end c.loop-at-test.true r.low r.high r.plain r.stop in
-      sending_stops M key pad text (length c.args.out.now) (view M g.F.Family.state c.loop-at.register) c.loop-at.out at end c.loop-at.number
-      (c.loop-at.invariant.3 key pad e z) (take (end - at) (drop at text)) cut _ _ c.in-Err.ensures.answers;
-}
-
-pub loop-at-preserved : goal.loop-at-preserved
-loop-at-preserved g c =
-    let M = g.F.Family.meaning in
-    let text = c.args.text.now in
-    let at = c.loop-at.at in
-    let end = c.line_end-end.result in
-    let r = c.line_end-end.ensures in
-    let next = c.if-end-text.at in
-    let cut : lines_of (drop at text) ≡ take (end - at) (drop at text) ∷ lines_of (drop (suc end) text) = line_between text at end c.loop-at-test.true r.low r.high r.plain r.stop in
-    let p : (next ≤ length text) × (at < next) × (drop next text ≡ drop (suc end) text) =
-    elim c.if-end-text.branch [
-      | then-end-text w ↦ (omega (arith, w.at-is), omega (arith, w.at-is, r.low), ap (λ q. drop q text) (w.at-is ∙ add-one end))
-      | else-end-text w ↦ (omega (arith, w.at-is), omega (arith, w.at-is, c.loop-at-test.true), ap (λ q. drop q text) w.at-is ∙ drop_end text end (omega arith))
-    ] in
-    let sent = c.in_default.ensures in (
-      p.0,
-      omega (arith, p.1, c.loop-at.invariant.1),
-      omega (arith, c.loop-at.invariant.2),
-      λ key pad e z.
-          sending_goes M key pad text (length c.args.out.now) (view M g.F.Family.state c.loop-at.register) c.loop-at.out at end c.loop-at.number
-          (c.loop-at.invariant.3 key pad e z) (take (end - at) (drop at text)) cut _ next _ _ sent.answers sent.leaves sent.writes p.2,
-    )
+pub returns-in_err-map_err : goal.returns-in_err-map_err
+returns-in_err-map_err g c =
+    let s = c.in-Some.ensures.steps in
+    let refused = mapped_err _ c.line_into.result c.map_err.result c.in_err-map_err.field-0.0 c.map_err.ensures.cases c.in_err-map_err.was in
+    let told : c.from_residual.result ≡ Err (Line refused.0 (c.loop-i.i-iterator.count + 1)) = search (rules, refused.2, s.1) in
+    rw told (record {
+      sends = λ key pad e z.
+          sending_stops (c.loop-i.invariant key pad e z) c.in-Some.line.now c.next.new.self.iter.rest.now s.0.0 _ _
+          (ap line_reply refused.1 ∙ c.line_into.ensures.answers);
+    })
 
 pub returns : goal.returns
-returns g c = record {
-  sends = λ key pad e z.
-      sending_ends g.F.Family.meaning key pad c.args.text.now (length c.args.out.now) _ c.loop-at.out c.loop-at.at c.loop-at.number
-      (c.loop-at.invariant.3 key pad e z) c.loop-at-test.false;
-}
+returns g c = record { sends = λ key pad e z. sending_ends (c.loop-i.invariant key pad e z) c.in-None.ensures.steps.0 }

@@ -3,6 +3,6 @@ use Rattle.std.proofs.Common.{◌≡◌, ◌-◌, ◌^◌, ◌<◌}
 use Rattle.line_reader.specs.Reading.{read_digits, read_number}
 use Rattle.line_reader.proofs.cursor.Cursor.number.Given as goal
 
-abbrev pub invariant-loop-left : goal.invariant-loop-left
-invariant-loop-left l =
-    (read_number l.initial.self.rest.now ≡ read_digits l._left l.value l.self.rest.now) × (l.value < 10 ^ (5 - l._left))
+abbrev pub invariant-loop : goal.invariant-loop
+invariant-loop l =
+    (read_number l.fn.self ≡ read_digits (5 - l.counter) l.value l.self-inside.rest.now) × (l.value < 10 ^ l.counter)

@@ -1,17 +1,12 @@
--- A byte that is no line feed belongs to the remark.
-use Rattle.std.proofs.Common.{get_or, sym, refl, ap, ◌∙◌, rules}
-use Rattle.std.proofs.lemmas.List.{nil_from_length}
-use Rattle.std.proofs.lemmas.Bool.{ne_eqb}
+-- The place of the first line feed, if there is one.
+use Rattle.std.proofs.Common.{◌≡◌, ◌≢◌, ℕ, sym, ap, ◌∙◌, rules, tests}
+use Rattle.std.proofs.lemmas.Iterator.{YieldsList-from_slice, IsFirst-from_position}
 use Rattle.line_reader.specs.Reading.{past_remark}
-use Rattle.line_reader.proofs.Fronts.{first_is}
+use Rattle.line_reader.proofs.Fronts.{remark_end}
 use Rattle.line_reader.proofs.cursor.Cursor.remark.Goals as goal
 
-pub loop-self-preserved : goal.loop-self-preserved
-loop-self-preserved c =
-    let b = get_or c.loop-self.self.rest.now 0 0 in
-    c.loop-self.invariant ∙ (ap past_remark (first_is c.loop-self.self.rest.now b (search rules) refl) ∙ rw (ne_eqb b 10 (search rules)))
-
-pub returns-in_default : goal.returns-in_default
-returns-in_default c =
-    let e = nil_from_length c.loop-self.self.rest.now (search rules) in
-    c.loop-self.invariant ∙ (ap past_remark e ∙ sym e)
+pub returns : goal.returns
+returns c =
+    let text = c.self.inside.rest.now in
+    let first = IsFirst-from_position _ _ c.position-end.result (λ (b : ℕ). b ≡ 10) (λ b. b ≢ 10) c.position-end.ensures.ran (YieldsList-from_slice text c.iter.ensures.rest) (λ x q k. search (rules, tests)) (λ x q k. search (rules, tests)) in
+    ap past_remark (sym c.self.view_is) ∙ remark_end text c.position-end.result first ∙ rw (sym c.unwrap_or.ensures)

@@ -1,0 +1,69 @@
+// The fields of an image by their framing: a tag, the length of the value in two bytes, and the value.
+ghost use Rattle.std.specs.Prelude.{◌+◌, ◌^◌, ◌<◌, ◌≤◌};
+
+// The tags of the fields.
+pub(crate) const ZONE: u8 = 1;
+
+pub(crate) const POINT: u8 = 2;
+
+pub(crate) const RULE: u8 = 3;
+
+pub(crate) const SEAL: u8 = 0x53;
+
+// A field of an image: its tag, and where its value stands.
+#[derive(Clone, Copy, Debug, PartialEq, Eq)]
+pub(crate) struct Field {
+    pub(crate) tag: u8,
+    place: usize,
+    length: usize,
+    // The tag and two length bytes stand before the value.
+    ghost after_head: { 3 ≤ place },
+    ghost ends: { place + length < 2 ^ 64 },
+}
+
+impl Field {
+    ghost use Rattle.register.specs.Reading.{first_place, place_of, value_in};
+    ghost use Rattle.std.specs.Option.{option_map};
+    ghost use Rattle.std.specs.Prelude.{◌≡◌, length};
+
+    // The field that begins some bytes, which stand at a place of an image; None where no whole field does.
+    pub(crate) fn first(bytes: &[u8], at: usize) -> Option<Field>
+        requires { at + length bytes.now < 2 ^ 64 }
+        ensures { option_map place_of result ≡ first_place bytes.now at }
+    {
+        let [tag, hi, lo, rest @ ..] = bytes else {
+            return None;
+        };
+        let length = usize::from(u16::from_be_bytes([*hi, *lo]));
+        if length > rest.len() {
+            return None;
+        }
+        Some(Field {
+            tag: *tag,
+            place: at + 3,
+            length,
+        })
+    }
+
+    // Where the field begins.
+    pub(crate) fn start(&self) -> usize
+        ensures { result + 3 ≡ self.now.place }
+    {
+        self.place - 3
+    }
+
+    // Where the field ends.
+    pub(crate) fn end(&self) -> usize
+        ensures { result ≡ self.now.place + self.now.length }
+    {
+        self.place + self.length
+    }
+
+    // The value in the field's image.
+    pub(crate) fn value<'a>(&self, image: &'a [u8]) -> &'a [u8]
+        requires { self.now.place + self.now.length ≤ length image.now }
+        ensures { result.now ≡ value_in image.now (place_of self.now) }
+    {
+        &image[self.place..self.end()]
+    }
+}

@@ -1,0 +1,106 @@
+// Records that fit their fields: their numbers are in range, and a panel can show their name.
+ghost use Rattle.register.specs.Known.{name_byte, name_fault, range_fault, zone_name};
+ghost use Rattle.register.specs.Known.{within as between};
+ghost use Rattle.register.specs.Records.{field_length};
+ghost use Rattle.register.specs.Values.{record_of};
+ghost use Rattle.std.specs.Prelude.{◌≡◌, ◌≤◌};
+
+use crate::fault::RecordFault;
+use crate::record::SiteRecord;
+use std::marker::Model;
+
+// A record whose numbers are in range, with a name that a panel can show.
+// Neither `Copy` nor `PartialEq`: they need the fields back from the value, and a list of bytes gives no slice back.
+#[derive(Drop, Debug)]
+pub(crate) struct SoundRecord<'a> {
+    pub(crate) site: SiteRecord<'a>,
+}
+
+impl<'a> Model for SoundRecord<'a> {
+    ghost use Rattle.std.specs.Prelude.{◌≡◌, false};
+    ghost use Rattle.register.specs.Known.{name_fault, range_fault};
+    ghost use Rattle.register.specs.Records.{Record};
+    ghost use Rattle.register.specs.Values.{record_of};
+
+    ghost Value = { Record };
+
+    ghost view = { λ sound. record_of sound.site };
+
+    ghost invariant = { λ sound. (range_fault (record_of sound.site) ≡ false) × (name_fault (record_of sound.site) ≡ false) };
+}
+
+// Whether a number is from 1 to the highest.
+fn in_range(n: u32, high: u32) -> bool
+    ensures { result ≡ between 1 high n }
+{
+    (1..=high).contains(&n)
+}
+
+// Whether a number of a record is out of its range.
+fn out_of_range(record: SiteRecord) -> bool
+    ensures { result ≡ range_fault (record_of «record».entry) }
+{
+    match record {
+        SiteRecord::Zone { number, .. } => !in_range(number, 250),
+        SiteRecord::Point { number, zone, kind } => {
+            !(in_range(number, 1000) && in_range(zone, 250) && in_range(u32::from(kind), 4))
+        }
+        SiteRecord::Rule { zone, point } => !(in_range(zone, 250) && in_range(point, 1000)),
+    }
+}
+
+// Whether a panel can show a byte.
+fn name_byte(b: u8) -> bool
+    ensures { result ≡ name_byte b }
+{
+    matches!(b, 0x20..=0x7E | 0x0A)
+}
+
+// Whether a panel can show a name.
+fn zone_name(name: &[u8]) -> bool
+    ensures { result ≡ zone_name name.now }
+{
+    (1..=40).contains(&name.len()) && name.iter().all(|b| name_byte(*b))
+}
+
+// Whether a record has a name that a panel cannot show.
+fn bad_name(record: SiteRecord) -> bool
+    ensures { result ≡ name_fault (record_of «record».entry) }
+{
+    match record {
+        SiteRecord::Zone { name, .. } => !zone_name(name),
+        _ => false,
+    }
+}
+
+impl<'a> TryFrom<SiteRecord<'a>> for SoundRecord<'a> {
+    ghost use Rattle.register.specs.Known.{judgement, unsound};
+
+    type Error = RecordFault;
+
+    ghost try_from_gives = { λ given made. made ≡ judgement (record_of given) (unsound (record_of given)) };
+
+    fn try_from(record: SiteRecord<'a>) -> Result<SoundRecord<'a>, RecordFault> {
+        if out_of_range(record) {
+            return Err(RecordFault::Range);
+        }
+        if bad_name(record) {
+            return Err(RecordFault::Name);
+        }
+        Ok(SoundRecord { site: record })
+    }
+}
+
+impl SoundRecord<'_> {
+    // How many bytes the record adds to the message.
+    pub(crate) fn field_length(&self) -> usize
+        ensures long { result ≡ field_length self.now }
+        ensures short { result ≤ 45 }
+    {
+        match self.site {
+            SiteRecord::Zone { name, .. } => 5 + name.len(),
+            SiteRecord::Point { .. } => 8,
+            SiteRecord::Rule { .. } => 7,
+        }
+    }
+}
