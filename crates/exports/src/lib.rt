@@ -1,5 +1,7 @@
 // The libraries behind functions on numbers and byte slices that other languages can call. The benchmark is built on them.
-// Codes, flags, verdicts and refusals are numbers here: C may hand over any number, and an enum or a `bool` may hold only its own.
+// Codes and flags are numbers here, and a part of no bytes is a message at once: C may hand over any number, and an enum or a `bool` may hold only
+// its own. Answers are one number each, 0 for no hash, since C has no `Result`. Buffers are handed over singly, as slices, and each function
+// that zeroes one says so itself.
 #![tactic(auto)]
 
 ghost use Rattle.std.specs.Prelude.{◌≡◌, ◌+◌, ◌^◌, ◌<◌, length, replicate, if◌then◌else◌};
@@ -56,7 +58,8 @@ fn open_either<F: Family>(gathered: bool, key: &[u8]) -> u8
 pub extern "C" fn waq_open(code: u8, gathered: u8, key: &[u8]) -> u8
     ensures { result ≡ by_code code (refusal_number (opening division_family key.now)) (refusal_number (opening toeplitz_family key.now)) (refusal_number (opening evaluation_family key.now)) 4 }
 {
-    // Each arm here and below names a function at its family. One switch for all would need a trait for each of the functions.
+    // Each arm here and below names a function at its family. One switch for all would need a trait
+    // with a struct and an `impl` for each of the functions.
     match FamilyCode::try_from(code) {
         Ok(FamilyCode::Division) => open_either::<Division>(gathered != 0, key),
         Ok(FamilyCode::Toeplitz) => open_either::<Toeplitz>(gathered != 0, key),

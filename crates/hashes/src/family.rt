@@ -14,7 +14,7 @@ pub trait Family: Sized + Drop {
 
     // `code` and `key_len` are functions: a constant of the trait would need a ghost member beside it that says what it is.
 
-    // The family's code.
+    // The family's code. A byte, since that is what an image has, and it may have any.
     fn code() -> u8
         ensures { result ≡ meaning.code };
 

@@ -35,6 +35,7 @@ pub(crate) fn multiples<const N: usize>(a: u64, w: u64) -> [u64; N]
     let mut result = [0; N];
     let words = &mut result[..];
     let mut power = a;
+    // By place, since the library has no iterator over doublings.
     for k in 0..N.ilog2() {
         let half = 1usize << k;
         words.copy_within(..half, half);

@@ -29,6 +29,8 @@ pub enum Call<'a> {
     Rule { zone: u32, point: u32 },
 }
 
+// As in the register, each call here says what it answers, leaves and keeps: that is of a call, and no invariant sees it.
+
 // Declares a zone by a name as it is written. A name that has no room here is too long for the book.
 fn named_zone<F: Family>(
     register: &mut Register<F>,

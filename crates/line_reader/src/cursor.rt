@@ -107,7 +107,7 @@ impl<'a> Cursor<'a> {
         ensures { read_name self.old ≡ (self.new, held result) }
     {
         let start = self.rest;
-        while let Some(_) = self.character()? {}
+        while self.character()?.is_some() {}
         Ok(&start[..start.len() - self.rest.len()])
     }
 

@@ -50,7 +50,7 @@ impl LineFault {
         }
     }
 
-    // The column, 0 for a record that is refused.
+    // The column; 0, by a rule of the project, for a record that is refused.
     pub fn column(&self) -> usize
         ensures { result ≡ column_of_line_fault self.now }
     {
@@ -61,7 +61,7 @@ impl LineFault {
     }
 }
 
-// Conversions by hand here and below, since the library derives none.
+// Conversions by hand here and below: a derive's would have no contract, and clauses name the fault that a `?` makes.
 impl From<(ReadFault, usize)> for LineFault {
     ghost from_gives = { λ f r. r ≡ Read f.0 f.1 };
 
@@ -101,7 +101,7 @@ impl MakeFault {
         }
     }
 
-    // The line and the column; 0 and 0 where no line is at fault.
+    // The line and the column; 0 and 0, by a rule of the project, where no line is at fault.
     pub fn place(&self) -> (usize, usize)
         ensures { result ≡ place_of_make_fault self.now }
     {
@@ -143,7 +143,7 @@ impl InputFault {
         }
     }
 
-    // The line and the column; 0 and 0 where no line is at fault.
+    // The line and the column; 0 and 0, by a rule of the project, where no line is at fault.
     pub fn place(&self) -> (usize, usize)
         ensures { result ≡ place_of_input_fault self.now }
     {

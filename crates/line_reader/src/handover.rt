@@ -49,7 +49,7 @@ pub fn seal_calls<F: Family>(
 }
 
 // Seals two sites by calls on two new registers, each by its own key buffer, which it leaves zero, and answers both seals. What belongs to
-// a site is not a struct, so that each clause names what it speaks of.
+// a site is no struct: a public call would then ask callers for another argument. Each call says itself that its buffers end as zeros, as `open` does.
 pub fn handover<F: Family>(
     buffer: &mut [u8],
     calls: &[Call],

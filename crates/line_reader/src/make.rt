@@ -10,6 +10,7 @@ ghost use Rattle.register.specs.Values.{view};
 use crate::calls::line_into;
 use crate::fault::{MakeFault, Refusal};
 use hashes::family::Family;
+use register::framing::{SEAL, SEAL_FIELD, SEAL_VALUE};
 use register::output::put_bytes;
 use register::register::Register;
 
@@ -71,17 +72,22 @@ fn build<F: Family>(text: &[u8], buffer: &mut [u8], out: &mut [u8]) -> Result<us
     let mut register = Register::<F>::open(buffer)?;
     send_lines(&mut register, text, out)?;
     let at = register.len();
-    // One test for the whole field, since no part of it may be written.
-    if at > out.len() || out.len() - at < 12 {
+    // A test, since `put_bytes` does not tell whether there was room, and where there is none the answer is 50.
+    if at > out.len() || out.len() - at < SEAL_FIELD {
         return Err(MakeFault::Room);
     }
     let [a, b, c, d, e, f, g, h] = register.close().to_be_bytes();
-    put_bytes(out, at, &[0x53, 0, 9, F::code(), a, b, c, d, e, f, g, h]);
-    Ok(at + 12)
+    put_bytes(
+        out,
+        at,
+        &[SEAL, 0, SEAL_VALUE, F::code(), a, b, c, d, e, f, g, h],
+    );
+    Ok(at + SEAL_FIELD)
 }
 
 // Makes the image of a text by a key buffer, which it leaves zero. The answer is the length of the image, and the output holds the image
-// followed by zeros. A refusal answers its number with the line, from 1, and the column, and leaves only zeros in the output.
+// followed by zeros. A refusal answers its number with the line, from 1, and the column, and leaves only zeros in the output. Buffer and output are
+// slices of the caller's: a struct of them would ask more, and each function says itself that the buffer ends as zeros.
 pub fn make<F: Family>(text: &[u8], buffer: &mut [u8], out: &mut [u8]) -> Result<usize, Refusal>
     ensures makes { (result, out.new) ≡ made F.meaning buffer.old text.now (length out.old) }
     ensures cleared { buffer.new ≡ replicate (length buffer.old) 0 }

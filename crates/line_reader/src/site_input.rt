@@ -15,7 +15,8 @@ use hashes::family::Family;
 use hashes::gather::Gather;
 use hashes::key_fault::KeyFault;
 use hashes::toeplitz::Toeplitz;
-use register::register::Register;
+use register::framing::SEAL_FIELD;
+use register::register::{PAD_LEN, Register};
 
 // The longest input.
 pub const LIMIT: usize = 65_536;
@@ -25,11 +26,11 @@ fn seal_text<F: Family>(rest: &mut [u8]) -> Result<(usize, u64), MakeFault>
     ensures { text_answer result ≡ seal_by_scheme (scheme_of F.meaning) rest.old }
 {
     let (buffer, text) = rest
-        .split_at_mut_checked(F::key_len() + 8)
+        .split_at_mut_checked(F::key_len() + PAD_LEN)
         .ok_or(KeyFault::Length)?;
     let mut register = Register::<F>::open(buffer)?;
     send_lines(&mut register, text, &mut [])?;
-    let length = register.len() + 12;
+    let length = register.len() + SEAL_FIELD;
     Ok((length, register.close()))
 }
 
@@ -37,7 +38,7 @@ fn seal_text<F: Family>(rest: &mut [u8]) -> Result<(usize, u64), MakeFault>
 fn seal_by_family(family: FamilyCode, rest: &mut [u8]) -> Result<(usize, u64), MakeFault>
     ensures { Bytes rest.old → text_answer result ≡ seal_by_scheme (scheme_of_family family) rest.old }
 {
-    // Each arm names the function at its family: one switch for all that is done by family would need a trait for each.
+    // Each arm names the function at its family: one switch for all that is done by family would need a trait with a struct and an `impl` for each.
     match family {
         FamilyCode::Division => seal_text::<Gather<Division>>(rest),
         FamilyCode::Toeplitz => seal_text::<Gather<Toeplitz>>(rest),

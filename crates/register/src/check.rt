@@ -6,14 +6,15 @@ ghost use Rattle.register.specs.Values.{view};
 ghost use Rattle.register.specs.Walking.{Walks, seal_answer};
 ghost use Rattle.std.specs.Prelude.{◌≡◌, ◌+◌, ◌-◌, ◌≤◌, ◌↔◌, length, replicate};
 
-use crate::fault::ImageFault;
+use crate::fault::{ImageFault, ImageRefusal};
 use crate::framing::Field;
 use crate::image::{Reader, record_in, seal_in};
 use crate::register::Register;
 use hashes::family::Family;
 
-// What a field that is no record's comes to, where a family of this code reads it: its seal, or a fault and its offset.
-fn at_seal(field: Field, image: &[u8], code: u8) -> Result<u64, (ImageFault, usize)>
+// What a field that is no record's comes to, where a family of this code reads it: its seal, or a fault and its offset. The code is a byte, as in the
+// field: that of another family is refused by 41.
+fn at_seal(field: Field, image: &[u8], code: u8) -> Result<u64, ImageRefusal>
     requires { field.place + field.length ≤ length image.now }
     ensures { result ≡ seal_answer (seal_of field.tag (value_in image.now (place_of field))) code (field.place - 3) (field.place + field.length) (length image.now) }
 {
@@ -29,13 +30,11 @@ fn at_seal(field: Field, image: &[u8], code: u8) -> Result<u64, (ImageFault, usi
 }
 
 // Sends the fields of an image to a new register, up to the seal field. The answer is the seal that this holds.
-fn read_records<F: Family>(
-    register: &mut Register<F>,
-    image: &[u8],
-) -> Result<u64, (ImageFault, usize)>
+fn read_records<F: Family>(register: &mut Register<F>, image: &[u8]) -> Result<u64, ImageRefusal>
     ensures { Walks F.meaning (view F.meaning F.state register.old) image.now result (view F.meaning F.state register.new) }
 {
-    // Where the next field begins. It is kept here too: with a `for` over `&mut reader` the proof did not close.
+    // Where the next field begins. The reader is not asked: after a `for` over `&mut reader` a proof knows nothing of it, since an invariant
+    // cannot name the borrow.
     let mut at = 0;
     for field in Reader::new(image) {
         let Some(record) = record_in(field.tag, field.value(image)) else {
@@ -49,8 +48,8 @@ fn read_records<F: Family>(
     Err((ImageFault::Framing, at))
 }
 
-// Whether an image is sealed by a key buffer, which it leaves zero; or a fault and the offset of the faulty field.
-pub fn check<F: Family>(buffer: &mut [u8], image: &[u8]) -> Result<bool, (ImageFault, usize)>
+// Whether an image is sealed by a key buffer, which it leaves zero, as a clause says here and wherever a slice of the caller's is zeroed; or a fault and the offset of the faulty field.
+pub fn check<F: Family>(buffer: &mut [u8], image: &[u8]) -> Result<bool, ImageRefusal>
     ensures answers { verdict_of result ≡ checked F.meaning buffer.old image.now }
     ensures passes { (verdict_of result ≡ says 1) ↔ Passes F.meaning buffer.old image.now }
     ensures wiped { buffer.new ≡ replicate (length buffer.old) 0 }

@@ -28,6 +28,9 @@ impl RecordFault {
     }
 }
 
+// Why the check of an image comes to no answer, with the offset of the faulty field. Plain, as the pair of line and column is.
+pub type ImageRefusal = (ImageFault, usize);
+
 // Why the check of an image comes to no answer.
 #[derive(Clone, Copy, Debug, PartialEq, Eq)]
 pub enum ImageFault {

@@ -54,7 +54,7 @@ impl<'a> From<&SoundRecord<'a>> for EncodedField<'a> {
 }
 
 // Hands the field of a record to a family.
-// It matches on the field as `put_field` does: two parts as slices, handed out once, made the check of an image a tenth slower.
+// It matches on the field as `put_field` does: two parts as slices, one of them empty for a point and for a rule, would be no plainer.
 pub(crate) fn send<F: Family>(family: &mut F, sound: &SoundRecord)
     ensures { F.state family.new ≡ absorbed F.meaning (F.state family.old) (bytes_of (field_of sound.now)) }
 {

@@ -8,11 +8,17 @@ pub(crate) const POINT: u8 = 2;
 
 pub(crate) const RULE: u8 = 3;
 
-pub(crate) const SEAL: u8 = 0x53;
+pub const SEAL: u8 = 0x53;
 
-// A field of an image: its tag, and where its value stands.
+// The length of a seal field's value, a code and a seal, and of the whole field.
+pub const SEAL_VALUE: u8 = 9;
+
+pub const SEAL_FIELD: usize = 12;
+
+// A field of an image: its tag, and where its value stands. By place and length, by a rule of the project on the forms that fields take.
 #[derive(Clone, Copy, Debug, PartialEq, Eq)]
 pub(crate) struct Field {
+    // A byte, since an image may have any here.
     pub(crate) tag: u8,
     place: usize,
     length: usize,

@@ -12,7 +12,7 @@ use hashes::word::word_of;
 #[derive(Drop)]
 pub(crate) struct Reader<'a> {
     image: &'a [u8],
-    // Where the next field begins.
+    // Where the next field begins. A place, as in a field.
     at: usize,
     ghost within: { at ≤ length image.now },
 }
@@ -71,7 +71,7 @@ pub(crate) fn record_in(tag: u8, value: &[u8]) -> Option<SiteRecord>
     }
 }
 
-// The code and the seal that a field holds, if it is a seal field.
+// The code and the seal that a field holds, if it is a seal field. The code is a byte, since an image may have any here.
 pub(crate) fn seal_in(tag: u8, value: &[u8]) -> Option<(u8, u64)>
     ensures { result ≡ seal_in tag value.now }
 {

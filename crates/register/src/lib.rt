@@ -7,7 +7,7 @@ mod entries;
 pub mod facts;
 pub mod fault;
 mod field;
-mod framing;
+pub mod framing;
 mod image;
 pub mod output;
 pub mod record;

@@ -14,6 +14,9 @@ use hashes::family::Family;
 use hashes::key_fault::KeyFault;
 use hashes::word::word_of;
 
+// The length of the pad, which stands after the key in a key buffer.
+pub const PAD_LEN: usize = 8;
+
 // No `impl Model`: its value would be `View F.meaning`, and a `Value` cannot name a bound's member.
 #[derive(Drop)]
 pub struct Register<F: Family> {
@@ -23,7 +26,8 @@ pub struct Register<F: Family> {
     book: Book,
 }
 
-// Key bytes, which are zeroed when the guard ends. Each call says itself that its buffer ends as zeros, since that is a slice of the caller's.
+// Key bytes, which are zeroed when the guard ends. Each call says itself that its buffer ends as zeros: that is a slice of the caller's, and a type
+// round it would ask more of callers.
 struct KeyGuard<'a> {
     bytes: &'a mut [u8],
 }
@@ -53,6 +57,8 @@ fn from_key<F: Family>(buffer: &[u8]) -> Result<Register<F>, KeyFault>
     })
 }
 
+// The calls of records each say what they answer, what they leave and what they keep: that is of a call, before and after it, and an invariant or
+// a Model sees a register at one time.
 impl<F: Family> Register<F> {
     // Opens a register by a key buffer, the key and then eight pad bytes, and leaves only zeros in it.
     pub fn open(buffer: &mut [u8]) -> Result<Register<F>, KeyFault>

@@ -2,7 +2,8 @@
 // handed over at each call, as is usual, and not kept.
 #![tactic(auto)]
 
-ghost use Rattle.std.specs.Prelude.{◌≡◌, ◌+◌, ◌%◌, ◌^◌, if◌then◌else◌, nat_eq};
+ghost use Rattle.std.specs.Prelude.{◌≡◌, if◌then◌else◌, nat_eq};
+ghost use Rattle.tally.specs.Counted.{counted};
 
 use std::io::Print;
 use std::{fmt, io};
@@ -51,8 +52,7 @@ impl Tally {
     // Counts an answer.
     pub fn verdict(&mut self, same: bool) -> Verdict
         ensures verdict { result ≡ (if same then Verdict.Same else Verdict.Differs) }
-        ensures lines { self.new.lines ≡ (self.old.lines + 1) % 2 ^ 64 }
-        ensures differ { self.new.differ ≡ (if same then self.old.differ else (self.old.differ + 1) % 2 ^ 64) }
+        ensures counts { self.new ≡ counted self.old same }
     {
         self.lines = self.lines.wrapping_add(1);
         if same {
@@ -65,8 +65,7 @@ impl Tally {
 
     // Counts an answer, and prints it with no more to say than whether it is as known.
     pub fn line(&mut self, rt: &impl Print, what: &str, same: bool) -> io::Result<()>
-        ensures lines { self.new.lines ≡ (self.old.lines + 1) % 2 ^ 64 }
-        ensures differ { self.new.differ ≡ (if same then self.old.differ else (self.old.differ + 1) % 2 ^ 64) }
+        ensures counts { self.new ≡ counted self.old same }
     {
         let verdict = self.verdict(same);
         println!(rt; "{what}: {verdict}")
@@ -74,8 +73,7 @@ impl Tally {
 
     // Counts a word that came out, and prints it and whether it is the known one.
     pub fn word(&mut self, rt: &impl Print, what: &str, word: u64, known: u64) -> io::Result<()>
-        ensures lines { self.new.lines ≡ (self.old.lines + 1) % 2 ^ 64 }
-        ensures differ { self.new.differ ≡ (if nat_eq word known then self.old.differ else (self.old.differ + 1) % 2 ^ 64) }
+        ensures counts { self.new ≡ counted self.old (nat_eq word known) }
     {
         let verdict = self.verdict(word == known);
         println!(rt; "{what}: {word:016X} {verdict}")

@@ -103,11 +103,17 @@ fn answer(input: &[u8]) -> Option<Result<(usize, u64), Refusal>> {
 }
 
 fn show_sealed(rt: &impl Print, tally: &mut Tally, known: &Sealed) -> io::Result<()> {
-    let found = answer(known.bytes);
-    let verdict = tally.verdict(found == Some(Ok((known.length, known.seal))));
-    let (length, seal) = found.and_then(|found| found.ok()).unwrap_or((0, 0));
     let what = known.what;
-    println!(rt; "input, {what}: {length} {seal:016X} {verdict}")
+    match answer(known.bytes) {
+        Some(Ok((length, seal))) => {
+            let verdict = tally.verdict(length == known.length && seal == known.seal);
+            println!(rt; "input, {what}: {length} {seal:016X} {verdict}")
+        }
+        _ => {
+            let verdict = tally.verdict(false);
+            println!(rt; "input, {what}: not sealed, {verdict}")
+        }
+    }
 }
 
 const TOO_LONG: Refused = Refused {

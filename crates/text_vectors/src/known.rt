@@ -30,8 +30,16 @@ pub fn show_refusal(
     refusal: Option<Refusal>,
     clean: bool,
 ) -> io::Result<()> {
-    let verdict = tally.verdict(refusal == Some(known.refusal) && clean);
-    let (number, (line, column)) = refusal.unwrap_or((0, (0, 0)));
     let what = known.what;
-    println!(rt; "{group}, {what}: {number} line {line} column {column} {verdict}")
+    match refusal {
+        Some(found) => {
+            let verdict = tally.verdict(found == known.refusal && clean);
+            let (number, (line, column)) = found;
+            println!(rt; "{group}, {what}: {number} line {line} column {column} {verdict}")
+        }
+        None => {
+            let verdict = tally.verdict(false);
+            println!(rt; "{group}, {what}: not refused, {verdict}")
+        }
+    }
 }

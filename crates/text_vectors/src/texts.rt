@@ -89,22 +89,27 @@ fn all_zero(bytes: &[u8]) -> bool {
 
 // Whether an output holds an image of this length with this seal, which the check passes, and then zeros.
 fn holds(out: &[u8], length: usize, seal: u64) -> bool {
-    let Some((image, rest)) = out.split_at_checked(length) else {
-        return false;
-    };
-    let mut buffer = BUFFER;
-    let passed = check::<Gather<Evaluation>>(&mut buffer, image);
-    passed == Ok(true) && image.ends_with(&seal.to_be_bytes()) && all_zero(rest)
+    out.split_at_checked(length).is_some_and(|(image, rest)| {
+        let passed = check::<Gather<Evaluation>>(&mut { BUFFER }, image);
+        passed == Ok(true) && image.ends_with(&seal.to_be_bytes()) && all_zero(rest)
+    })
 }
 
 fn show_made(rt: &impl Print, tally: &mut Tally, known: &Sealed) -> io::Result<()> {
     let mut buffer = BUFFER;
     let mut out = [0xFF; 40];
-    let length = make::<Gather<Evaluation>>(known.bytes, &mut buffer, &mut out).unwrap_or(0);
-    let same = length == known.length && holds(&out, length, known.seal) && all_zero(&buffer);
-    let verdict = tally.verdict(same);
     let what = known.what;
-    println!(rt; "text, {what}: {length} bytes {verdict}")
+    match make::<Gather<Evaluation>>(known.bytes, &mut buffer, &mut out) {
+        Ok(length) => {
+            let whole = length == known.length && holds(&out, length, known.seal);
+            let verdict = tally.verdict(whole && all_zero(&buffer));
+            println!(rt; "text, {what}: {length} bytes {verdict}")
+        }
+        Err(_) => {
+            let verdict = tally.verdict(false);
+            println!(rt; "text, {what}: not made, {verdict}")
+        }
+    }
 }
 
 fn show_refused(rt: &impl Print, tally: &mut Tally, known: &Refused) -> io::Result<()> {

@@ -122,10 +122,10 @@ const DAMAGES: [Damage; 15] = [
     },
 ];
 
-// The same records under another code.
-fn resealed(code: u8, seal: u64) -> [u8; 33] {
+// The same records sealed by another family.
+fn resealed<F: Family>(seal: u64) -> [u8; 33] {
     let mut image = IMAGE;
-    image[24] = code;
+    image[24] = F::code();
     image[25..].copy_from_slice(&seal.to_be_bytes());
     image
 }
@@ -161,7 +161,7 @@ fn damaged(rt: &impl Print, tally: &mut Tally, damage: &Damage) -> io::Result<()
         rt,
         tally,
         damage.what,
-        buffers::DIVISION,
+        buffers::division(),
         &image,
         damage.known,
     )
@@ -175,7 +175,7 @@ fn cut(rt: &impl Print, tally: &mut Tally) -> io::Result<()> {
         rt,
         tally,
         "a byte more",
-        buffers::DIVISION,
+        buffers::division(),
         &longer,
         Err((40, 33)),
     )?;
@@ -183,7 +183,7 @@ fn cut(rt: &impl Print, tally: &mut Tally) -> io::Result<()> {
         rt,
         tally,
         "a byte less",
-        buffers::DIVISION,
+        buffers::division(),
         &IMAGE[..32],
         Err((40, 21)),
     )?;
@@ -191,7 +191,7 @@ fn cut(rt: &impl Print, tally: &mut Tally) -> io::Result<()> {
         rt,
         tally,
         "no seal field",
-        buffers::DIVISION,
+        buffers::division(),
         &IMAGE[..21],
         Err((40, 21)),
     )?;
@@ -199,24 +199,31 @@ fn cut(rt: &impl Print, tally: &mut Tally) -> io::Result<()> {
         rt,
         tally,
         "one byte",
-        buffers::DIVISION,
+        buffers::division(),
         &IMAGE[..1],
         Err((40, 0)),
     )?;
-    show::<Division, _>(rt, tally, "empty", buffers::DIVISION, &[], Err((40, 0)))
+    show::<Division, _>(rt, tally, "empty", buffers::division(), &[], Err((40, 0)))
 }
 
 // The other families, and buffers that open none.
 fn families(rt: &impl Print, tally: &mut Tally) -> io::Result<()> {
-    let toeplitz = resealed(0x02, 0x07CA0D120579C6A8);
-    let evaluation = resealed(0x03, 0x1502190424061B18);
-    show::<Toeplitz, _>(rt, tally, "02", buffers::TOEPLITZ, &toeplitz, Ok(true))?;
-    show::<Evaluation, _>(rt, tally, "03", buffers::EVALUATION, &evaluation, Ok(true))?;
+    let toeplitz = resealed::<Toeplitz>(0x07CA0D120579C6A8);
+    let evaluation = resealed::<Evaluation>(0x1502190424061B18);
+    show::<Toeplitz, _>(rt, tally, "02", buffers::toeplitz(), &toeplitz, Ok(true))?;
+    show::<Evaluation, _>(
+        rt,
+        tally,
+        "03",
+        buffers::evaluation(),
+        &evaluation,
+        Ok(true),
+    )?;
     show::<Evaluation, _>(
         rt,
         tally,
         "01 by 03",
-        buffers::EVALUATION,
+        buffers::evaluation(),
         &IMAGE,
         Err((41, 21)),
     )?;

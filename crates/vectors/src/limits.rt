@@ -95,7 +95,7 @@ fn full(rt: &impl Print, tally: &mut Tally, mut site: Site) -> io::Result<()> {
 }
 
 pub fn run(rt: &impl Print, tally: &mut Tally) -> io::Result<()> {
-    let mut buffer = buffers::DIVISION;
+    let mut buffer = buffers::division();
     match Site::open(&mut buffer) {
         Ok(mut site) => {
             zones(rt, tally, &mut site)?;
@@ -103,7 +103,7 @@ pub fn run(rt: &impl Print, tally: &mut Tally) -> io::Result<()> {
         }
         Err(_) => tally.line(rt, "a book at its limits", false)?,
     }
-    let mut buffer = buffers::DIVISION;
+    let mut buffer = buffers::division();
     match Site::open(&mut buffer) {
         Ok(site) => full(rt, tally, site),
         Err(_) => tally.line(rt, "a full message", false),

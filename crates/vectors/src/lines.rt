@@ -13,6 +13,7 @@ fn zone(rt: &impl Print, tally: &mut Tally, expected: &ZoneLine) -> io::Result<(
     let what = expected.line;
     match read_line(what.as_bytes()) {
         Ok(Line::Zone { number, name }) => {
+            // Fixed memory, and a length beside it, since `decode` fills bytes of the caller's.
             let mut bytes = [0; 16];
             let len = decode(name, &mut bytes);
             let same = number == expected.number && &bytes[..len] == expected.name;

@@ -11,7 +11,7 @@ use Rattle.line_reader.specs.Making.{Making, eight, unmade}
 use Rattle.line_reader.specs.Sending.{wiped}
 use Rattle.line_reader.proofs.Makings.{making_fits, making_full, opened_made}
 use Rattle.line_reader.proofs.make.build.Goals as goal
-use Rattle.line_reader.proofs.make.build.Goals.{then-at-out-via-then-at-out, then-at-out-via-else-at-out+then-out-at-lt12}
+use Rattle.line_reader.proofs.make.build.Goals.{then-at-out-via-then-at-out, then-at-out-via-else-at-out+then-out-at-lt-SEAL_FIELD}
 
 -- a refusal leaves zeros, by the room
 abbrev unmade_in : ℕ → ℕ → ℕ → ℕ → Making
@@ -45,7 +45,7 @@ returns-then-at-out-clause-makes g c =
     let full : room < at + 12 =
     elim c.then-at-out.branch [
       | then-at-out-via-then-at-out w ↦ omega (arith, w.if-at-out.true, kept)
-      | then-at-out-via-else-at-out+then-out-at-lt12 w ↦ omega (arith, w.if-at-out.false, w.if-out-at-lt12.true, kept)
+      | then-at-out-via-else-at-out+then-out-at-lt-SEAL_FIELD w ↦ omega (arith, w.if-at-out.false, w.if-out-at-lt-SEAL_FIELD.true, kept)
     ] in
     ap (unmade_in 50 0 0) kept
     ∙ sym (opened_made M buffer text room _ _ o s.1 ∙ making_full M (key_of M buffer) (pad_of M buffer) room s.0 (omega (arith, full, bytes)))
@@ -70,5 +70,5 @@ returns-clause-makes g c =
     c.put_bytes.ensures ∙ ap₂ (λ (n : ℕ) (x : List ℕ). put c.send_lines.new.out n x) bytes field in
     ap (λ (n : ℕ). wiped (Ok (n + 12)) c.put_bytes.new.out) bytes
     ∙ making_fits M (key_of M buffer) (pad_of M buffer) room s.0 c.send_lines.new.out _ s.3
-    (omega (arith, bytes, kept, c.if-at-out.false, c.if-out-at-lt12.false)) putting
+    (omega (arith, bytes, kept, c.if-at-out.false, c.if-out-at-lt-SEAL_FIELD.false)) putting
     ∙ sym (opened_made M buffer text room _ _ o s.1)

@@ -1,0 +1,7 @@
+-- What a comparison adds to a tally.
+use Rattle.std.specs.Prelude.{Bool, ◌+◌, ◌%◌, ◌^◌, if◌then◌else◌}
+use Rattle.tally.specs.declared.Tally.{Tally}
+
+-- a tally after one more comparison; both counts go round at 2^64
+abbrev pub counted : Tally → Bool → Tally
+counted tally same = record { lines = (tally.lines + 1) % 2 ^ 64; differ = if same then tally.differ else (tally.differ + 1) % 2 ^ 64 }
