@@ -1,10 +1,11 @@
 -- polynomials
 pub mod PolynomialLaws
-pub mod Shifts
-pub mod Products
+pub mod Sums
 pub mod Multiples
 -- residues modulo a polynomial
 pub mod FieldLaws
+pub mod FourthPowers
+pub mod Linear
 -- families
 pub mod Absorbed
 pub mod EvaluationSteps

@@ -8,7 +8,7 @@ use Rattle.hashes.specs.Lists.{◌∈◌, Distinct}
 use Rattle.hashes.specs.Polynomial.{times, degree, remainder, Divides, gcd_within, gcd}
 use Rattle.hashes.specs.Irreducible.{Irreducible}
 use Rattle.hashes.specs.Xor.{xor_cancel}
-use Rattle.hashes.specs.Times.{times_zero_l, times_zero_r, times_one_l, times_one_r, times_xor_l, times_xor_r, times_comm, times_assoc}
+use Rattle.hashes.specs.Times.{times_zero_l, times_zero_r, times_one_l, times_xor_l, times_xor_r, times_comm, times_assoc}
 use Rattle.hashes.specs.Degree.{degree_lead, degree_times, degree_zero}
 use Rattle.hashes.specs.Remainder.{divided, remainder_below, remainder_multiple}
 
@@ -125,28 +125,6 @@ gcd_common a b = gcd_within_common b a b (le_refl b)
 pub gcd_greatest : {d a b : ℕ} → Divides d a → Divides d b → Divides d (gcd a b)
 gcd_greatest {a = a} {b = b} h k = common_greatest (gcd_common a b) h k
 
--- two that divide each other are equal: 1 is the only unit
-pub divides_antisymm : {a b : ℕ} → Divides a b → Divides b a → a ≡ b
-divides_antisymm {a} {b} h k = go (eq-zero-or-pos b)
-  where
-    go : (b ≡ 0) ⊎ (0 < b) → a ≡ b
-    go (inl z) = sym k.product ∙ ap (times k.quotient) z ∙ times_zero_r k.quotient ∙ sym z
-    go (inr pos) =
-        same_degree pos h (omega (arith, degree_quotient pos h, degree_quotient (divisor_pos pos h) k))
-
-pub common_unique : {g h a b : ℕ} → Common g a b → Common h a b → g ≡ h
-common_unique c e = divides_antisymm (common_greatest e c.left c.right) (common_greatest c e.left e.right)
-
--- one step of Euclid's
-pub gcd_step : (a b : ℕ) → 0 < b → gcd a b ≡ gcd b (remainder a b)
-gcd_step a b pos = common_unique (gcd_common a b) (common_step a pos (gcd_common b (remainder a b)))
-
-pub gcd_zero : (a : ℕ) → gcd a 0 ≡ a
-gcd_zero a = common_unique (gcd_common a 0) (common_zero a)
-
-pub gcd_one : (a : ℕ) → gcd a 1 ≡ 1
-gcd_one a = divides_antisymm (gcd_common a 1).right (record { quotient = gcd a 1; product = times_one_r (gcd a 1) })
-
 -- ---- irreducible polynomials
 
 pub irreducible_pos : {p : ℕ} → Irreducible p → 0 < p
@@ -171,24 +149,29 @@ irreducible_divisor {p} {d} h k = go (ℕ_discrete (degree d) 0) (dec_lt (degree
     go (no z) (yes l) = absurd (h.no_divisor d (omega arith) l k)
     go (no z) (no l) = inr (same_degree pos k (omega (arith, most)))
 
--- Euclid's lemma
-pub euclid : {p : ℕ} (a b : ℕ) → Irreducible p → Divides p (times a b) → Divides p a ⊎ Divides p b
-euclid {p} a b h k = go (irreducible_divisor h c.right)
+-- what divides a product, and has no factor in common with one factor, divides the other
+pub coprime_factor : {p : ℕ} (a b : ℕ) → gcd a p ≡ 1 → Divides p (times a b) → Divides p b
+coprime_factor {p} a b e k =
+    subst (λ (x : ℕ). Divides p x) parts (divides_xor (divides_times c.u k) (divides_times (times c.v b) (divides_refl p)))
   where
     c : Common (gcd a p) a p
     c = gcd_common a p
 
-    -- where 1 = u a + v p, b = u (a b) + (v b) p
-    parts : gcd a p ≡ 1 → bit_xor (times c.u (times a b)) (times (times c.v b) p) ≡ b
-    parts e =
+    -- since 1 = u a + v p, b = u (a b) + (v b) p
+    parts : bit_xor (times c.u (times a b)) (times (times c.v b) p) ≡ b
+    parts =
         ap₂ bit_xor (sym (times_assoc c.u a b)) (times_assoc c.v b p ∙ ap (times c.v) (times_comm b p) ∙ sym (times_assoc c.v p b))
         ∙ sym (times_xor_l (times c.u a) (times c.v p) b)
         ∙ ap (λ (x : ℕ). times x b) (sym c.sum ∙ e)
         ∙ times_one_l b
 
+-- Euclid's lemma
+pub euclid : {p : ℕ} (a b : ℕ) → Irreducible p → Divides p (times a b) → Divides p a ⊎ Divides p b
+euclid {p} a b h k = go (irreducible_divisor h (gcd_common a p).right)
+  where
     go : (gcd a p ≡ 1) ⊎ (gcd a p ≡ p) → Divides p a ⊎ Divides p b
-    go (inl e) = inr (subst (λ (x : ℕ). Divides p x) (parts e) (divides_xor (divides_times c.u k) (divides_times (times c.v b) (divides_refl p))))
-    go (inr e) = inl (subst (λ (x : ℕ). Divides x a) e c.left)
+    go (inl e) = inr (coprime_factor a b e k)
+    go (inr e) = inl (subst (λ (x : ℕ). Divides x a) e (gcd_common a p).left)
 
 -- Keys that stand for different irreducible polynomials of degree n, all of which divide a: their degrees together are at most a's.
 module _ {K : Type 0} (poly : K → ℕ) (injective : (j k : K) → poly j ≡ poly k → j ≡ k) (n : ℕ) where

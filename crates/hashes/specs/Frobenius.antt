@@ -30,7 +30,7 @@ module _ (p : ℕ) (pos : 0 < p) where
   unfoldable pub square : ℕ → ℕ
   square a = times_mod p a a
 
-  pub square_xor : (a b : ℕ) → square (bit_xor a b) ≡ bit_xor (square a) (square b)
+  square_xor : (a b : ℕ) → square (bit_xor a b) ≡ bit_xor (square a) (square b)
   unfolding square
   square_xor a b =
       mod_xor_l p pos a b (bit_xor a b) ∙ ap₂ bit_xor (mod_xor_r p pos a a b) (mod_xor_r p pos b a b)
@@ -49,6 +49,16 @@ module _ (p : ℕ) (pos : 0 < p) where
   unfolding frobenius
   frobenius_lt zero a h = h
   frobenius_lt (suc k) a h = mod_lt p pos (frobenius p k a) (frobenius p k a)
+
+  pub frobenius_xor : (k a b : ℕ) → frobenius p k (bit_xor a b) ≡ bit_xor (frobenius p k a) (frobenius p k b)
+  unfolding frobenius square
+  frobenius_xor zero a b = refl
+  frobenius_xor (suc k) a b = ap square (frobenius_xor k a b) ∙ square_xor (frobenius p k a) (frobenius p k b)
+
+  pub frobenius_times : (k a b : ℕ) → frobenius p k (times_mod p a b) ≡ times_mod p (frobenius p k a) (frobenius p k b)
+  unfolding frobenius square
+  frobenius_times zero a b = refl
+  frobenius_times (suc k) a b = ap square (frobenius_times k a b) ∙ square_times (frobenius p k a) (frobenius p k b)
 
   pub frobenius_add : (j k a : ℕ) → frobenius p (j + k) a ≡ frobenius p j (frobenius p k a)
   unfolding frobenius

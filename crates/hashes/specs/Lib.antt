@@ -2,6 +2,7 @@
 pub mod Lists
 pub mod Word
 pub mod Polynomial
+pub mod Additive
 pub mod Irreducible
 pub mod Laws
 pub mod Field
@@ -31,7 +32,8 @@ pub mod Images
 pub mod Frobenius
 pub mod Period
 pub mod Least
-pub mod BenOr
+pub mod Factors
+pub mod Rabin
 pub mod Modulus
 pub mod Trial
 -- families

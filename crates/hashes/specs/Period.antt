@@ -19,7 +19,7 @@ use Rattle.hashes.specs.Divisors.{irreducible_pos}
 use Rattle.hashes.specs.FieldLemmas.{mod_lt, mod_xor_l, mod_one_l, field_zero}
 use Rattle.hashes.specs.Roots.{Polynomial, constant, next, roots}
 use Rattle.hashes.specs.Images.{images, length_images, images_all, apart_or, all_apart}
-use Rattle.hashes.specs.Frobenius.{frobenius, at, square, square_xor, frobenius_lt, frobenius_add, at_rem, at_x, frobenius_at, frobenius_zero, at_polynomial, frobenius_power, one_lt}
+use Rattle.hashes.specs.Frobenius.{frobenius, at, square, frobenius_lt, frobenius_xor, frobenius_add, at_rem, at_x, frobenius_at, frobenius_zero, at_polynomial, frobenius_power, one_lt}
 
 module _ (p : ℕ) (irr : Irreducible p) where
   pos : 0 < p
@@ -42,11 +42,6 @@ module _ (p : ℕ) (irr : Irreducible p) where
       go (inl z) = z
       go (inr z) = z
 
-  frobenius_xor : (k a b : ℕ) → frobenius p k (bit_xor a b) ≡ bit_xor (frobenius p k a) (frobenius p k b)
-  unfolding frobenius square
-  frobenius_xor zero a b = refl
-  frobenius_xor (suc k) a b = ap (square p pos) (frobenius_xor k a b) ∙ square_xor p pos (frobenius p k a) (frobenius p k b)
-
   frobenius_kernel : (k a : ℕ) → a < 2 ^ degree p → frobenius p k a ≡ 0 → a ≡ 0
   unfolding frobenius square
   frobenius_kernel zero a h e = e
@@ -55,7 +50,7 @@ module _ (p : ℕ) (irr : Irreducible p) where
   frobenius_inj : (k a b : ℕ) → a < 2 ^ degree p → b < 2 ^ degree p → frobenius p k a ≡ frobenius p k b → a ≡ b
   frobenius_inj k a b ha hb e =
       xor_zero a b (frobenius_kernel k (bit_xor a b) (xor_lt (degree p) a b ha hb)
-      (frobenius_xor k a b ∙ ap (λ (y : ℕ). bit_xor y (frobenius p k b)) e ∙ xor_self (frobenius p k b)))
+      (frobenius_xor p pos k a b ∙ ap (λ (y : ℕ). bit_xor y (frobenius p k b)) e ∙ xor_self (frobenius p k b)))
 
   -- ---- the conjugates of x are roots of p, so two of the first n + 1 are equal
 

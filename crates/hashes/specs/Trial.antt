@@ -5,7 +5,7 @@ use Rattle.std.proofs.Math.Nat.{le_step}
 use Rattle.std.proofs.lemmas.Bool.{and_parts, eq-eqb, lt-ltb, ltb-true, ne_eqb}
 use Rattle.hashes.specs.Irreducible.{Irreducible, irreducible_by_trial, none_divides}
 use Rattle.hashes.specs.Polynomial.{Divides, degree, remainder}
-use Rattle.hashes.specs.BenOr.{degree_pos, pos_degree}
+use Rattle.hashes.specs.Factors.{degree_pos, pos_degree}
 use Rattle.hashes.specs.Degree.{degree_lt, lt_degree}
 use Rattle.hashes.specs.Divisors.{divides_of_remainder, remainder_of_divides}
 

@@ -1,35 +1,32 @@
-use Rattle.std.proofs.Common.{rules, ◌≡◌, ℕ, ◌*◌, ◌%◌, ◌^◌, arith, ◌∙◌}
+use Rattle.std.proofs.Common.{◌≡◌, ℕ, ◌+◌, ◌*◌, ◌%◌, ◌^◌, ◌∙◌, arith}
 use Rattle.std.proofs.lemmas.List.{length-replicate}
-use Rattle.hashes.proofs.Multiples.{multiple_one, multiple_zero, multiples_doubled, power_doubled, room_for_double, whole_power}
+use Rattle.hashes.specs.Polynomial.{times_mod}
+use Rattle.hashes.proofs.Multiples.{multiple_add, multiple_one, power_doubled}
+use Rattle.hashes.proofs.Sums.{filled_one, filled_twice, room_for_double, whole_power}
 use Rattle.hashes.proofs.polynomial.multiples.Goals as goal
 
 pub loop-k-init : goal.loop-k-init
 loop-k-init g c = record {
-  filled = λ t h. let none : t ≡ 0 = omega arith in rw none (search (rules, multiple_zero c.args.w c.args.a));
+  len = length-replicate {A = ℕ} g.row.N 0;
+  filled = filled_one (λ t. times_mod (2 ^ 64 + c.args.w) t c.args.a) (multiple_add c.args.w c.args.a) g.row.N;
   power = multiple_one c.args.w c.args.a c.ranges.w.fits c.ranges.a.fits;
 }
 
-pub copy_within-requires-clause-in_bounds : goal.copy_within-requires-clause-in_bounds
-copy_within-requires-clause-in_bounds g c =
+pub extend_sums-requires : goal.extend_sums-requires
+extend_sums-requires g c =
     let room = room_for_double c.loop-k.k c.ilog2-k-end.result g.row.N c.loop-k-test.true c.ilog2-k-end.ensures.power_le in
-    omega (arith, room, g.N.fits.fits, c.loop-k.auto.words, length-replicate {A = ℕ} g.row.N 0)
-
-pub copy_within-requires-clause-dest_in_bounds : goal.copy_within-requires-clause-dest_in_bounds
-copy_within-requires-clause-dest_in_bounds g c =
-    let room = room_for_double c.loop-k.k c.ilog2-k-end.result g.row.N c.loop-k-test.true c.ilog2-k-end.ensures.power_le in
-    omega (arith, room, g.N.fits.fits, c.loop-k.auto.words, length-replicate {A = ℕ} g.row.N 0)
+    omega (arith, room, g.N.fits.fits, c.loop-k.invariant.len)
 
 pub loop-k-preserved : goal.loop-k-preserved
 loop-k-preserved g c =
     let room = room_for_double c.loop-k.k c.ilog2-k-end.result g.row.N c.loop-k-test.true c.ilog2-k-end.ensures.power_le in
     let half : 1 * 2 ^ c.loop-k.k % 2 ^ 64 ≡ 2 ^ c.loop-k.k = omega (arith, room, g.N.fits.fits) in
     record {
+      len = c.extend_sums.ensures.len ∙ c.loop-k.invariant.len;
       filled =
-          multiples_doubled c.args.w c.args.a c.loop-k.k _ _ _ c.loop-k.power c.loop-k.words c.copy_within.new.self c.loop-word.word-items
-          half (omega arith) (omega arith) (omega (arith, half, room, c.copy_within.ensures.len, c.loop-k.auto.words, length-replicate {A = ℕ} g.row.N 0)) c.loop-word.auto.word-items
-          c.loop-k.invariant.power c.loop-k.invariant.filled c.copy_within.ensures.by_index.0 c.copy_within.ensures.by_index.1
-          (λ t h. c.loop-word.invariant.done t (omega (arith, h, c.loop-word-test.false, c.loop-word.auto.word-items)));
-      power = c.double-power.ensures ∙ power_doubled c.args.w c.args.a c.loop-k.power c.loop-k.k c.ranges.w.fits c.loop-k.auto.power-fits.fits c.loop-k.invariant.power;
+          filled_twice (λ t. times_mod (2 ^ 64 + c.args.w) t c.args.a) (multiple_add c.args.w c.args.a) c.loop-k.k _ _ c.loop-k.result c.extend_sums.new.words
+          half c.loop-k.invariant.power c.loop-k.invariant.filled c.extend_sums.ensures.below c.extend_sums.ensures.above;
+      power = c.double-power.ensures ∙ power_doubled c.args.w c.args.a c.loop-k.power c.loop-k.k c.ranges.w.fits c.loop-k.invariant.power;
     }
 
 pub returns : goal.returns
