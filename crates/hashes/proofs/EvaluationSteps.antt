@@ -1,20 +1,24 @@
--- The evaluation hash's steps: a product by half bytes, the bytes of a part, and the last word.
-use Rattle.std.proofs.Common.{◌≡◌, ℕ, suc, ◌+◌, ◌-◌, ◌*◌, ◌/◌, ◌%◌, ◌^◌, ◌<◌, ◌≢◌, Bool, true, false, cond, eqb, List, [], ◌∷◌, ◌++◌, length, get_or, drop, set, replicate, sym, refl, ap, ◌∙◌, ap₂, append_assoc, append-nil, mod-lt, mul_assoc, mul_comm, arith, length-append, pow_pos, pow-add, get_or-set_other, get_or-set_same, below_more}
+-- The evaluation hash's steps: a product by half bytes, and the bytes of a part.
+use Rattle.std.proofs.Common.{◌≡◌, ℕ, suc, ◌+◌, ◌-◌, ◌*◌, ◌/◌, ◌%◌, ◌^◌, ◌<◌, ◌≢◌, Bool, true, false, cond, eqb, List, [], ◌∷◌, ◌++◌, length, get_or, set, sym, refl, ap, ◌∙◌, ap₂, append_assoc, append-nil, mod-lt, mul_assoc, mul_comm, arith, length-append, pow_pos, pow-add, get_or-set_other, get_or-set_same, below_more}
 use native.Mathlib.Decide.{ℕ_discrete}
 use native.Mathlib.Nat.{div-div-eq-div-mul, mod-one}
+use Rattle.std.proofs.Math.Nat.{mod-eq_of_lt}
 use lib.Bits.{bit_xor, xor_comm, xor_shifted}
-use lib.Pow.{mod-pow-add}
-use Rattle.hashes.specs.Evaluation.{evaluation_state, evaluation_family, evaluation_next, modulus, padded, with_word}
+use lib.Pow.{mod-pow-add, split}
+use Rattle.std.specs.Int.Bits.{xor_assoc}
+use Rattle.std.proofs.lemmas.Nat.{xor_lt}
+use Rattle.hashes.specs.Division.{division}
+use Rattle.hashes.specs.Evaluation.{evaluation_state, evaluation_family, evaluation_next, modulus, with_word}
 use Rattle.hashes.specs.Family.{absorbed}
-use Rattle.hashes.specs.Polynomial.{degree, times_mod}
+use Rattle.hashes.specs.Polynomial.{degree, remainder, times, times_mod}
 use Rattle.hashes.specs.Word.{word}
-use Rattle.hashes.proofs.Multiples.{multiple_up}
+use Rattle.hashes.proofs.Multiples.{multiple_one, multiple_up}
 use Rattle.hashes.specs.Divisors.{irreducible_pos}
-use Rattle.hashes.specs.FieldLemmas.{mod_xor_l, mod_zero_l}
+use Rattle.hashes.specs.FieldLemmas.{mod_assoc, mod_rem_l, mod_xor_l, mod_zero_l}
 use Rattle.hashes.specs.Modulus.{modulus_degree, modulus_irreducible}
-use Rattle.hashes.specs.Words.{double_word}
-use Rattle.std.proofs.lemmas.List.{drop-replicate}
-use Rattle.std.proofs.Math.Seq.{set-append_seam}
+use Rattle.hashes.specs.Remainder.{remainder_small, remainder_xor}
+use Rattle.hashes.specs.Times.{times_comm, times_one_r, times_xor_r}
+use Rattle.hashes.specs.Words.{division_word, double_word, times_shl}
 use Rattle.std.proofs.lemmas.Bool.{eq-eqb, ne_eqb}
 
 pos : 0 < modulus
@@ -32,10 +36,17 @@ multiple_even a d = multiple_up modulus pos 1 d a ∙ ap (λ (x : ℕ). times_mo
 abbrev pub multiple : ℕ → ℕ → ℕ → ℕ
 multiple a j d = times_mod modulus (d * 2 ^ (4 * j)) a
 
-pub multiple_next : (a j d : ℕ) → times_mod modulus 16 (multiple a j d) ≡ multiple a (j + 1) d
-multiple_next a j d =
-    multiple_up modulus pos 4 (d * 2 ^ (4 * j)) a
-    ∙ ap (λ (x : ℕ). times_mod modulus x a) (mul_assoc d (2 ^ (4 * j)) (2 ^ 4) ∙ ap (λ (x : ℕ). d * x) (sym (pow-add 2 (4 * j) 4) ∙ ap (λ (x : ℕ). 2 ^ x) four_more))
+-- x^(4j) times a
+abbrev pub Power : ℕ → ℕ → ℕ → Type 0
+Power a j b = b ≡ times_mod modulus (2 ^ (4 * j)) a
+
+pub first_power : (a : ℕ) → a < 2 ^ 64 → Power a 0 a
+first_power a h = multiple_one 0x1B a (omega arith) h
+
+pub next_power : (a j b c : ℕ) → Power a j b → c ≡ times_mod modulus 16 b → Power a (j + 1) c
+next_power a j b c p q =
+    q ∙ ap (times_mod modulus 16) p ∙ multiple_up modulus pos 4 (2 ^ (4 * j)) a
+    ∙ ap (λ (x : ℕ). times_mod modulus x a) (sym (pow-add 2 (4 * j) 4) ∙ ap (λ (n : ℕ). 2 ^ n) four_more)
   where
     four_more : 4 * j + 4 ≡ 4 * (j + 1)
     four_more = omega arith
@@ -44,11 +55,20 @@ multiple_next a j d =
 abbrev pub Row : ℕ → ℕ → List ℕ → Type 0
 Row a j row = (d : ℕ) → d < 16 → get_or row d 0 ≡ multiple a j d
 
--- the first n rows after row 0
-abbrev pub Rows : ℕ → ℕ → List (List ℕ) → Type 0
-Rows a n rows = (i : ℕ) → i < n → Row a (i + 1) (get_or rows i [])
+-- the multiples of x^(4j) times a
+pub row_at : (a j b : ℕ) (row : List ℕ) → Power a j b → ((d : ℕ) → d < 16 → get_or row d 0 ≡ times_mod modulus d b) → Row a j row
+row_at a j b row p e d h =
+    e d h ∙ ap (times_mod modulus d) p ∙ sym (mod_assoc modulus pos d (2 ^ (4 * j)) a) ∙ ap (λ (x : ℕ). times_mod modulus x a) shifted
+    ∙ mod_rem_l modulus pos (d * 2 ^ (4 * j)) a
+  where
+    shifted : times_mod modulus d (2 ^ (4 * j)) ≡ remainder (d * 2 ^ (4 * j)) modulus
+    shifted = unfold times_mod in ap (λ (x : ℕ). remainder x modulus) (times_shl d (4 * j))
 
-pub rows_more : (a i : ℕ) (rows : List (List ℕ)) (row : List ℕ) → i < length rows → Row a (i + 1) row → Rows a i rows → Rows a (i + 1) (set rows i row)
+-- the first n rows
+abbrev pub Rows : ℕ → ℕ → List (List ℕ) → Type 0
+Rows a n rows = (i : ℕ) → i < n → Row a i (get_or rows i [])
+
+pub rows_more : (a i : ℕ) (rows : List (List ℕ)) (row : List ℕ) → i < length rows → Row a i row → Rows a i rows → Rows a (i + 1) (set rows i row)
 rows_more a i rows row within filled before =
     below_more _ _
     (λ k l d h. let ne : k ≢ i = omega arith in rw get_or-set_other (before k l d h))
@@ -83,6 +103,19 @@ half_bytes_left v j =
   where
     four_more : 4 * j + 4 ≡ 4 * (j + 1)
     four_more = omega arith
+
+-- the same of the upper half
+pub upper_left : (v n : ℕ) → v / n / 2 ^ 32 ≡ v / 2 ^ 32 / n
+upper_left v n = div-div-eq-div-mul v n (2 ^ 32) ∙ ap (λ (x : ℕ). v / x) (mul_comm n (2 ^ 32)) ∙ sym (div-div-eq-div-mul v (2 ^ 32) n)
+
+-- both halves
+pub halves : (a v low high up : ℕ) → v < 2 ^ 64 → low ≡ times_mod modulus (v % 2 ^ 32) a → high ≡ times_mod modulus (v / 2 ^ 32 % 2 ^ 32) a
+    → up ≡ times_mod modulus (2 ^ 32) high → bit_xor up low ≡ times_mod modulus v a
+halves a v low high up h p q r =
+    ap₂ bit_xor
+    (r ∙ ap (times_mod modulus (2 ^ 32)) (q ∙ ap (λ (x : ℕ). times_mod modulus x a) (mod-eq_of_lt (omega arith))) ∙ multiple_up modulus pos 32 (v / 2 ^ 32) a) p
+    ∙ sym (mod_xor_l modulus pos (v / 2 ^ 32 * 2 ^ 32) (v % 2 ^ 32) a)
+    ∙ ap (λ (x : ℕ). times_mod modulus x a) (xor_shifted (v / 2 ^ 32) 32 (v % 2 ^ 32) (mod-lt v (pow_pos 32)) ∙ split v 32)
 
 -- ---- a part
 
@@ -127,15 +160,56 @@ pub word_finished : (a v u w : ℕ) (bs xs : List ℕ) → length bs < 8 → len
     → evaluation_state a u [] ≡ absorbed evaluation_family (evaluation_state a v bs) xs
 word_finished a v u w bs xs h l p q = rw (p, q) (sym (word_taken a v bs xs h l))
 
--- the bytes pending in front of zeros, and the mark after them
-pub marked : (bs : List ℕ) → length bs < 8 → set (bs ++ drop (length bs) (replicate 8 0)) (length bs) 0x80 ≡ padded bs
-marked bs h =
-    ap (λ (zs : List ℕ). set (bs ++ zs) (length bs) 0x80) (drop-replicate (length bs) 8 0 ∙ ap (λ (k : ℕ). replicate k 0) zeros)
-    ∙ set-append_seam bs 0 (replicate (7 - length bs % 8) 0) 0x80
-  where
-    zeros : 8 - length bs ≡ suc (7 - length bs % 8)
-    zeros = omega arith
-
 -- x times a, as the machine works it out
 pub doubled_word : (a b : ℕ) → a < 2 ^ 64 → b ≡ bit_xor (a * 2 % 2 ^ 64) (a / 2 ^ 63 * 0x1B) → b ≡ times_mod modulus 2 a
 doubled_word a b h e = e ∙ sym (double_word 63 0x1B a (omega arith) h)
+
+-- 0x1B times a polynomial
+abbrev low_times : ℕ → ℕ
+low_times a = bit_xor (bit_xor (bit_xor a (a * 2)) (a * 8)) (a * 16)
+
+times_low : (a : ℕ) → times a 0x1B ≡ low_times a
+times_low a =
+    times_xor_r a (bit_xor (bit_xor 1 2) 8) 16
+    ∙ ap₂ bit_xor
+    (times_xor_r a (bit_xor 1 2) 8 ∙ ap₂ bit_xor (times_xor_r a 1 2 ∙ ap₂ bit_xor (times_one_r a) (times_shl a 1)) (times_shl a 3))
+    (times_shl a 4)
+
+-- x^64 times half a word
+half_word_out : (a : ℕ) → a < 2 ^ 32 → remainder (a * 2 ^ 64) modulus ≡ low_times a
+unfolding division times_mod
+half_word_out a h =
+    division_word 64 0x1B a (omega arith)
+    ∙ ap (λ (x : ℕ). remainder x modulus) (times_low a)
+    ∙ remainder_small modulus pos (low_times a)
+    (small (low_times a)
+    (xor_lt 64 (bit_xor (bit_xor a (a * 2)) (a * 8)) (a * 16) (xor_lt 64 (bit_xor a (a * 2)) (a * 8) (xor_lt 64 a (a * 2) (omega arith) (omega arith)) (omega arith)) (omega arith)))
+
+-- x^32 times a
+half_word_times : (a : ℕ) → a < 2 ^ 64 → times_mod modulus (2 ^ 32) a ≡ bit_xor (a * 2 ^ 32 % 2 ^ 64) (low_times (a / 2 ^ 32))
+unfolding times_mod
+half_word_times a h =
+    ap (λ (x : ℕ). remainder x modulus) (times_comm (2 ^ 32) a ∙ times_shl a 32 ∙ whole)
+    ∙ remainder_xor modulus pos (a / 2 ^ 32 * 2 ^ 64) (a * 2 ^ 32 % 2 ^ 64)
+    ∙ ap₂ bit_xor (half_word_out (a / 2 ^ 32) (omega arith)) (remainder_small modulus pos (a * 2 ^ 32 % 2 ^ 64) (small (a * 2 ^ 32 % 2 ^ 64) (mod-lt (a * 2 ^ 32) (pow_pos 64))))
+    ∙ xor_comm (low_times (a / 2 ^ 32)) (a * 2 ^ 32 % 2 ^ 64)
+  where
+    whole : a * 2 ^ 32 ≡ bit_xor (a / 2 ^ 32 * 2 ^ 64) (a * 2 ^ 32 % 2 ^ 64)
+    whole =
+        sym (split (a * 2 ^ 32) 64)
+        ∙ sym (xor_shifted (a * 2 ^ 32 / 2 ^ 64) 64 (a * 2 ^ 32 % 2 ^ 64) (mod-lt (a * 2 ^ 32) (pow_pos 64)))
+        ∙ ap (λ (x : ℕ). bit_xor (x * 2 ^ 64) (a * 2 ^ 32 % 2 ^ 64)) (omega arith)
+
+-- the sum, as the machine works it out: nothing is shifted out of what came out of a
+pub half_word_folded : (a : ℕ) → a < 2 ^ 64
+    → bit_xor (bit_xor (bit_xor (bit_xor (a * 2 ^ 32 % 2 ^ 64) (a / 2 ^ 32)) (a / 2 ^ 32 * 2 % 2 ^ 64)) (a / 2 ^ 32 * 8 % 2 ^ 64)) (a / 2 ^ 32 * 16 % 2 ^ 64)
+    ≡ times_mod modulus (2 ^ 32) a
+half_word_folded a h =
+    ap₂ bit_xor (ap₂ bit_xor (ap (bit_xor (bit_xor (a * 2 ^ 32 % 2 ^ 64) (a / 2 ^ 32))) (mod-eq_of_lt (omega arith))) (mod-eq_of_lt (omega arith))) (mod-eq_of_lt (omega arith))
+    ∙ sorted (a * 2 ^ 32 % 2 ^ 64) (a / 2 ^ 32)
+    ∙ sym (half_word_times a h)
+  where
+    sorted : (l o : ℕ) → bit_xor (bit_xor (bit_xor (bit_xor l o) (o * 2)) (o * 8)) (o * 16) ≡ bit_xor l (low_times o)
+    sorted l o =
+        ap (λ (x : ℕ). bit_xor x (o * 16)) (ap (λ (x : ℕ). bit_xor x (o * 8)) (xor_assoc l o (o * 2)) ∙ xor_assoc l (bit_xor o (o * 2)) (o * 8))
+        ∙ xor_assoc l (bit_xor (bit_xor o (o * 2)) (o * 8)) (o * 16)

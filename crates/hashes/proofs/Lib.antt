@@ -9,4 +9,5 @@ pub mod Linear
 -- families
 pub mod Absorbed
 pub mod EvaluationSteps
+pub mod PendingBytes
 pub mod KeyTest

@@ -1,5 +1,7 @@
 // The evaluation hash: the message's words as the coefficients of a polynomial, evaluated at the key's point.
-ghost use Rattle.std.specs.Prelude.{◌≡◌, ℕ, ◌*◌, ◌/◌, ◌%◌, ◌^◌, ◌<◌, [], length, slice_index, slice_index_or};
+ghost use Rattle.std.specs.Prelude.{◌≡◌, ℕ, ◌*◌, ◌/◌, ◌%◌, ◌^◌, ◌<◌, ◌+◌, List, [], ◌++◌, length, slice_index, slice_index_or};
+ghost use Rattle.std.specs.Int.{bytes_high_first};
+ghost use Rattle.std.specs.Int.Digits.{number_from_digits_after};
 ghost use Rattle.hashes.specs.Evaluation.{EvaluationFacts, EvaluationState, evaluation_family, evaluation_hash, evaluation_state, modulus, padded, with_word};
 ghost use Rattle.hashes.specs.Family.{absorbed};
 ghost use Rattle.hashes.specs.Polynomial.{times_mod};
@@ -7,7 +9,6 @@ ghost use Rattle.hashes.specs.Word.{word};
 ghost use Rattle.hashes.specs.EvaluationFamily.{evaluation_lawful};
 
 use crate::family::Family;
-use crate::held::Held;
 use crate::key_fault::KeyFault;
 use crate::polynomial::{double, multiples};
 use crate::word::word_of;
@@ -21,39 +22,41 @@ const KEY_LEN: usize = 8;
 // The low word of the modulus x^64 + x^4 + x^3 + x + 1.
 const MODULUS: u64 = 0x1B;
 
-// The multiples of a point by half bytes: row j has d x^(4j) times the point at place d.
+// The multiples of a point by half bytes, for half of a word: row j has d x^(4j) times the point at place d.
 #[derive(Drop)]
 struct Multiples {
     point: u64,
-    rows: [[u64; 16]; 16],
-    ghost filled: { (j d : ℕ) → j < 16 → d < 16 → slice_index (slice_index_or rows j []) d ≡ times_mod modulus (d * 2 ^ (4 * j)) point },
+    rows: [[u64; 16]; 8],
+    ghost filled: { (j d : ℕ) → j < 8 → d < 16 → slice_index (slice_index_or rows j []) d ≡ times_mod modulus (d * 2 ^ (4 * j)) point },
 }
 
 impl Multiples {
-    // The first row has the multiples by half bytes themselves, and each later row is made from the one before it.
+    // Each row has the multiples of x^4 times what the row before it has the multiples of.
     fn new(point: u64) -> Multiples
         ensures { result.point ≡ point }
     {
-        let mut row = multiples(point, MODULUS);
-        let mut rows = [row; 16];
-        for next in &mut rows[1..] {
-            row_up(&mut row);
-            *next = row;
+        let mut rows = [[0; 16]; 8];
+        let mut power = point;
+        for row in &mut rows {
+            *row = multiples(power, MODULUS);
+            power = half_byte_up(power);
         }
         Multiples { point, rows }
     }
 
-    // v times the point: one lookup for each half byte of v.
+    // v times the point: one lookup for each half byte of v. Those of the upper half are added up as if they stood in the lower one, and moved up at the end.
     fn times(&self, v: u64) -> u64
         ensures { result ≡ times_mod modulus v self.now.point }
     {
-        let mut sum = 0;
+        let mut low = 0;
+        let mut high = 0;
         let mut rest = v;
         for row in &self.rows {
-            sum ^= row[(rest % 16) as usize];
+            low ^= row[(rest % 16) as usize];
+            high ^= row[((rest >> 32) % 16) as usize];
             rest >>= 4;
         }
-        sum
+        half_word_up(high) ^ low
     }
 
     // The value times the point, and the next word.
@@ -61,15 +64,6 @@ impl Multiples {
         ensures { result ≡ with_word self.now.point value word }
     {
         self.times(value) ^ word
-    }
-}
-
-// x^4 times each word of a row.
-fn row_up(row: &mut [u64; 16])
-    ensures { (d : ℕ) → d < 16 → slice_index row.new d ≡ times_mod modulus 16 (slice_index row.old d) }
-{
-    for a in row {
-        *a = half_byte_up(*a);
     }
 }
 
@@ -89,11 +83,88 @@ fn half_byte_up(a: u64) -> u64
     bit_up(bit_up(bit_up(bit_up(a))))
 }
 
+// x^32 times a: what goes out at the top comes in below, times the low word of the modulus.
+#[tactic(auto, using(crate::proofs::EvaluationSteps::half_word_folded))]
+fn half_word_up(a: u64) -> u64
+    ensures { result ≡ times_mod modulus (2 ^ 32) a }
+{
+    let out = a >> 32;
+    (a << 32) ^ out ^ (out << 1) ^ (out << 3) ^ (out << 4)
+}
+
+// What finishes a word: 80, and then 00.
+const PADDING: [u8; 8] = [0x80, 0, 0, 0, 0, 0, 0, 0];
+
+// The bytes of a word that is under way, fewer than eight: the low bytes of a word. What stands above them does not count.
+#[derive(Drop)]
+struct Pending {
+    word: u64,
+    len: usize,
+}
+
+// Clauses see the bytes.
+impl Model for Pending {
+    ghost Value = { List ℕ };
+
+    ghost view = { λ p. bytes_high_first p.len p.word };
+
+    ghost invariant = { λ p. p.len < 8 };
+}
+
+impl Pending {
+    fn new() -> Pending
+        ensures { result ≡ [] }
+    {
+        Pending { word: 0, len: 0 }
+    }
+
+    // How many bytes finish the word.
+    #[tactic(auto, using(crate::proofs::PendingBytes::length_bytes))]
+    fn room(&self) -> usize
+        ensures { result + length self.now ≡ 8 }
+    {
+        8 - self.len
+    }
+
+    fn extend(&mut self, part: &[u8])
+        requires { length self.old + length part.now < 8 }
+        ensures { self.new ≡ self.old ++ part.now }
+    {
+        self.word = with_bytes(self.word, part);
+        self.len += part.len();
+    }
+
+    // The word that a part finishes.
+    fn finished(&self, part: &[u8]) -> u64
+        requires { length self.now + length part.now ≡ 8 }
+        ensures { result ≡ word (self.now ++ part.now) }
+    {
+        with_bytes(self.word, part)
+    }
+
+    fn clear(&mut self)
+        ensures { self.new ≡ [] }
+    {
+        self.len = 0;
+    }
+}
+
+// A word with bytes put in from below, which push the top ones out.
+fn with_bytes(word: u64, bytes: &[u8]) -> u64
+    ensures { result ≡ number_from_digits_after 256 word bytes.now % 2 ^ 64 }
+{
+    let mut word = word;
+    for byte in bytes {
+        word = (word << 8) | u64::from(*byte);
+    }
+    word
+}
+
 #[derive(Drop)]
 pub struct Evaluation {
     multiples: Multiples,
     value: u64,
-    pending: Held<8>,
+    pending: Pending,
 }
 
 // Clauses see the state between two bytes.
@@ -113,7 +184,7 @@ impl Evaluation {
         Evaluation {
             multiples: Multiples::new(point),
             value: 1,
-            pending: Held::new(),
+            pending: Pending::new(),
         }
     }
 
@@ -127,8 +198,7 @@ impl Evaluation {
             self.pending.extend(part);
             return;
         };
-        self.pending.extend(first);
-        let word = u64::from_be_bytes(*self.pending.as_array());
+        let word = self.pending.finished(first);
         self.value = self.multiples.with_word(self.value, word);
         self.pending.clear();
         self.take_words(rest);
@@ -159,15 +229,11 @@ impl Evaluation {
     }
 
     // The last word: the bytes pending, 80, and then 00.
-    #[tactic(auto, using(crate::proofs::EvaluationSteps::marked, crate::specs::Bytes::word8, crate::specs::EvaluationMessage::length_padded))]
+    #[tactic(auto, using(crate::proofs::PendingBytes::padding))]
     fn last_word(&self) -> u64
         ensures { result ≡ word (padded self.now.pending) }
     {
-        let pending = self.pending.as_slice();
-        let mut last = [0; 8];
-        last[..pending.len()].copy_from_slice(pending);
-        last[pending.len()] = 0x80;
-        u64::from_be_bytes(last)
+        self.pending.finished(&PADDING[..self.pending.room()])
     }
 }
 

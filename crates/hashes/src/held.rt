@@ -35,13 +35,6 @@ impl<const N: usize> Held<N> {
         &self.bytes[..self.len]
     }
 
-    pub(crate) fn as_array(&self) -> &[u8; N]
-        requires { length self.now ≡ N }
-        ensures { result.now ≡ self.now }
-    {
-        &self.bytes
-    }
-
     // How many bytes more can be held.
     pub(crate) fn room(&self) -> usize
         ensures { result + length self.now ≡ N }

@@ -1,16 +1,20 @@
-use Rattle.std.proofs.Common.{◌+◌, refl, ap, ◌∙◌, arith, rules}
-use Rattle.hashes.specs.Evaluation.{modulus}
-use Rattle.hashes.specs.Polynomial.{times_mod}
-use Rattle.hashes.proofs.EvaluationSteps.{Row, multiple_next, rows_more}
+use Rattle.std.proofs.Common.{◌+◌, ◌∙◌, refl, arith, rules, length-set}
+use Rattle.hashes.proofs.EvaluationSteps.{first_power, next_power, row_at, rows_more}
 use Rattle.hashes.proofs.evaluation.Multiples.new.Goals as goal
 
-pub multiples-row-requires : goal.multiples-row-requires
-multiples-row-requires c = (omega arith, (4, refl))
+pub multiples-requires : goal.multiples-requires
+multiples-requires c = (omega arith, (4, refl))
 
-pub loop-next-preserved : goal.loop-next-preserved
-loop-next-preserved c =
+pub loop-row-init : goal.loop-row-init
+loop-row-init c = record { sized = refl; power = first_power c.args.point c.ranges.point.fits; rows = λ i h. absurd (omega arith) }
+
+pub loop-row-preserved : goal.loop-row-preserved
+loop-row-preserved c =
     let a = c.args.point in
-    let i = c.loop-next.next-index in
-    let row = c.row_up.new.row in
-    let up : Row a (i + 1) row = λ d h. c.row_up.ensures d h ∙ ap (times_mod modulus 16) (c.loop-next.invariant.row d h) ∙ multiple_next a i d in
-    record { row = up; rows = rows_more a i c.loop-next.next-items row (search rules) up c.loop-next.invariant.rows }
+    let j = c.loop-row.row-index in
+    let power = c.loop-row.invariant.power in
+    record {
+      sized = length-set c.loop-row.row-items j _ ∙ c.loop-row.invariant.sized;
+      power = next_power a j c.loop-row.power c.half_byte_up-power.result power c.half_byte_up-power.ensures;
+      rows = rows_more a j c.loop-row.row-items _ (omega (arith, c.loop-row.invariant.sized, c.loop-row-test.true)) (row_at a j c.loop-row.power _ power c.multiples.ensures) c.loop-row.invariant.rows;
+    }

@@ -1,9 +1,11 @@
-use Rattle.hashes.proofs.EvaluationSteps.{Row, Rows}
+use Rattle.std.proofs.Common.{◌≡◌, length}
+use Rattle.hashes.proofs.EvaluationSteps.{Power, Rows}
 use Rattle.hashes.proofs.evaluation.Multiples.new.Given as goal
 
--- `row` is the row before place `next-index` of those that are written
-abbrev pub invariant-loop-next : goal.invariant-loop-next
-invariant-loop-next l = record {
-  row : Row l.point l.next-index l.row;
-  rows : Rows l.point l.next-index l.next-items;
+-- the rows so far are filled, and the power is that of the next
+abbrev pub invariant-loop-row : goal.invariant-loop-row
+invariant-loop-row l = record {
+  sized : length l.row-items ≡ 8;
+  power : Power l.point l.row-index l.power;
+  rows : Rows l.point l.row-index l.row-items;
 }
