@@ -1,11 +1,9 @@
 -- The evaluation hash's steps: a product by half bytes, and the bytes of a part.
-use Rattle.std.proofs.Common.{◌≡◌, ℕ, suc, ◌+◌, ◌-◌, ◌*◌, ◌/◌, ◌%◌, ◌^◌, ◌<◌, ◌≢◌, Bool, true, false, cond, eqb, List, [], ◌∷◌, ◌++◌, length, get_or, set, sym, refl, ap, ◌∙◌, ap₂, append_assoc, append-nil, mod-lt, mul_assoc, mul_comm, arith, length-append, pow_pos, pow-add, get_or-set_other, get_or-set_same, below_more}
+use Rattle.std.proofs.Common.{◌≡◌, ℕ, zero, suc, ◌+◌, ◌-◌, ◌*◌, ◌/◌, ◌%◌, ◌^◌, ◌<◌, ◌≢◌, Bool, true, false, cond, eqb, List, [], ◌∷◌, ◌++◌, length, get_or, set, sym, refl, ap, ◌∙◌, ap₂, append_assoc, append-nil, mod-lt, mul_comm, mul_right_comm, zero-add, arith, length-append, pow_pos, pow-add, get_or-set_other, get_or-set_same, below_more}
 use native.Mathlib.Decide.{ℕ_discrete}
 use native.Mathlib.Nat.{div-div-eq-div-mul, mod-one}
-use Rattle.std.proofs.Math.Nat.{mod-eq_of_lt}
 use lib.Bits.{bit_xor, xor_comm, xor_shifted}
 use lib.Pow.{mod-pow-add, split}
-use Rattle.std.specs.Int.Bits.{xor_assoc}
 use Rattle.std.proofs.lemmas.Nat.{xor_lt}
 use Rattle.hashes.specs.Division.{division}
 use Rattle.hashes.specs.Evaluation.{evaluation_state, evaluation_family, evaluation_next, modulus, with_word}
@@ -14,11 +12,12 @@ use Rattle.hashes.specs.Polynomial.{degree, remainder, times, times_mod}
 use Rattle.hashes.specs.Word.{word}
 use Rattle.hashes.proofs.Multiples.{multiple_one, multiple_up}
 use Rattle.hashes.specs.Divisors.{irreducible_pos}
-use Rattle.hashes.specs.FieldLemmas.{mod_assoc, mod_rem_l, mod_xor_l, mod_zero_l}
+use Rattle.hashes.specs.FieldLemmas.{mod_assoc, mod_comm, mod_rem_l, mod_xor_l, mod_xor_r, mod_zero_l}
 use Rattle.hashes.specs.Modulus.{modulus_degree, modulus_irreducible}
 use Rattle.hashes.specs.Remainder.{remainder_small, remainder_xor}
 use Rattle.hashes.specs.Times.{times_comm, times_one_r, times_xor_r}
-use Rattle.hashes.specs.Words.{division_word, double_word, times_shl}
+use Rattle.hashes.specs.Words.{division_word, times_shl}
+use Rattle.hashes.specs.Xor.{xor_shl, xor_swap}
 use Rattle.std.proofs.lemmas.Bool.{eq-eqb, ne_eqb}
 
 pos : 0 < modulus
@@ -29,40 +28,42 @@ pos = irreducible_pos modulus_irreducible
 small : (a : ℕ) → a < 2 ^ 64 → a < 2 ^ degree modulus
 small a h = rw modulus_degree h
 
-pub multiple_even : (a d : ℕ) → times_mod modulus 2 (times_mod modulus d a) ≡ times_mod modulus (2 * d) a
-multiple_even a d = multiple_up modulus pos 1 d a ∙ ap (λ (x : ℕ). times_mod modulus x a) (mul_comm d 2)
+pub half_byte_twice : (a : ℕ) → times_mod modulus 16 (times_mod modulus 16 a) ≡ times_mod modulus 256 a
+half_byte_twice a = multiple_up modulus pos 4 16 a
 
 -- the multiple in row j at place d
 abbrev pub multiple : ℕ → ℕ → ℕ → ℕ
-multiple a j d = times_mod modulus (d * 2 ^ (4 * j)) a
+multiple a j d = times_mod modulus (d * 2 ^ (8 * j)) a
 
--- x^(4j) times a
+-- x^(8j) times a
 abbrev pub Power : ℕ → ℕ → ℕ → Type 0
-Power a j b = b ≡ times_mod modulus (2 ^ (4 * j)) a
+Power a j b = b ≡ times_mod modulus (2 ^ (8 * j)) a
 
 pub first_power : (a : ℕ) → a < 2 ^ 64 → Power a 0 a
 first_power a h = multiple_one 0x1B a (omega arith) h
 
-pub next_power : (a j b c : ℕ) → Power a j b → c ≡ times_mod modulus 16 b → Power a (j + 1) c
-next_power a j b c p q =
-    q ∙ ap (times_mod modulus 16) p ∙ multiple_up modulus pos 4 (2 ^ (4 * j)) a
-    ∙ ap (λ (x : ℕ). times_mod modulus x a) (sym (pow-add 2 (4 * j) 4) ∙ ap (λ (n : ℕ). 2 ^ n) four_more)
+eight_more : (j : ℕ) → 2 ^ (8 * j) * 2 ^ 8 ≡ 2 ^ (8 * (j + 1))
+eight_more j = sym (pow-add 2 (8 * j) 8) ∙ ap (λ (n : ℕ). 2 ^ n) sum
   where
-    four_more : 4 * j + 4 ≡ 4 * (j + 1)
-    four_more = omega arith
+    sum : 8 * j + 8 ≡ 8 * (j + 1)
+    sum = omega arith
+
+pub next_power : (a j b c : ℕ) → Power a j b → c ≡ times_mod modulus 256 b → Power a (j + 1) c
+next_power a j b c p q =
+    q ∙ ap (times_mod modulus 256) p ∙ multiple_up modulus pos 8 (2 ^ (8 * j)) a ∙ ap (λ (x : ℕ). times_mod modulus x a) (eight_more j)
 
 -- a row is the one in place j
 abbrev pub Row : ℕ → ℕ → List ℕ → Type 0
 Row a j row = (d : ℕ) → d < 16 → get_or row d 0 ≡ multiple a j d
 
--- the multiples of x^(4j) times a
+-- the multiples of x^(8j) times a
 pub row_at : (a j b : ℕ) (row : List ℕ) → Power a j b → ((d : ℕ) → d < 16 → get_or row d 0 ≡ times_mod modulus d b) → Row a j row
 row_at a j b row p e d h =
-    e d h ∙ ap (times_mod modulus d) p ∙ sym (mod_assoc modulus pos d (2 ^ (4 * j)) a) ∙ ap (λ (x : ℕ). times_mod modulus x a) shifted
-    ∙ mod_rem_l modulus pos (d * 2 ^ (4 * j)) a
+    e d h ∙ ap (times_mod modulus d) p ∙ sym (mod_assoc modulus pos d (2 ^ (8 * j)) a) ∙ ap (λ (x : ℕ). times_mod modulus x a) shifted
+    ∙ mod_rem_l modulus pos (d * 2 ^ (8 * j)) a
   where
-    shifted : times_mod modulus d (2 ^ (4 * j)) ≡ remainder (d * 2 ^ (4 * j)) modulus
-    shifted = unfold times_mod in ap (λ (x : ℕ). remainder x modulus) (times_shl d (4 * j))
+    shifted : times_mod modulus d (2 ^ (8 * j)) ≡ remainder (d * 2 ^ (8 * j)) modulus
+    shifted = unfold times_mod in ap (λ (x : ℕ). remainder x modulus) (times_shl d (8 * j))
 
 -- the first n rows
 abbrev pub Rows : ℕ → ℕ → List (List ℕ) → Type 0
@@ -76,46 +77,49 @@ rows_more a i rows row within filled before =
 
 -- ---- a product by half bytes
 
-pub no_half_byte : (a v : ℕ) → 0 ≡ times_mod modulus (v % 1) a
-no_half_byte a v = sym (ap (λ (x : ℕ). times_mod modulus x a) (mod-one v) ∙ mod_zero_l modulus pos a)
+-- what the sums over the lower and the upper half bytes come to
+abbrev pub Added : ℕ → ℕ → ℕ → ℕ → Type 0
+Added a v low high = bit_xor (times_mod modulus 16 high) low ≡ times_mod modulus v a
 
--- one half byte more
-low_more : (v j : ℕ) → v % 2 ^ (4 * (j + 1)) ≡ bit_xor (v % 2 ^ (4 * j)) (v / 2 ^ (4 * j) % 16 * 2 ^ (4 * j))
+pub none_added : (a v : ℕ) → Added a (v % 1) 0 0
+none_added a v =
+    ap (λ (x : ℕ). bit_xor x 0) (mod_comm modulus pos 16 0 ∙ mod_zero_l modulus pos 16)
+    ∙ sym (ap (λ (x : ℕ). times_mod modulus x a) (mod-one v) ∙ mod_zero_l modulus pos a)
+
+-- one byte more
+low_more : (v j : ℕ) → v % 2 ^ (8 * (j + 1)) ≡ bit_xor (v % 2 ^ (8 * j)) (v / 2 ^ (8 * j) % 256 * 2 ^ (8 * j))
 low_more v j =
-    ap (λ (n : ℕ). v % 2 ^ n) four_more ∙ mod-pow-add v 4 (4 * j)
-    ∙ sym (xor_shifted (v / 2 ^ (4 * j) % 16) (4 * j) (v % 2 ^ (4 * j)) (mod-lt v (pow_pos (4 * j))))
-    ∙ xor_comm (v / 2 ^ (4 * j) % 16 * 2 ^ (4 * j)) (v % 2 ^ (4 * j))
+    ap (λ (n : ℕ). v % 2 ^ n) eight ∙ mod-pow-add v 8 (8 * j)
+    ∙ sym (xor_shifted (v / 2 ^ (8 * j) % 256) (8 * j) (v % 2 ^ (8 * j)) (mod-lt v (pow_pos (8 * j))))
+    ∙ xor_comm (v / 2 ^ (8 * j) % 256 * 2 ^ (8 * j)) (v % 2 ^ (8 * j))
   where
-    four_more : 4 * (j + 1) ≡ 4 + 4 * j
-    four_more = omega arith
+    eight : 8 * (j + 1) ≡ 8 + 8 * j
+    eight = omega arith
 
--- s stands for the half bytes below place j, and e for that at place j
-pub half_byte_more : (a v j s e : ℕ) → s ≡ times_mod modulus (v % 2 ^ (4 * j)) a → e ≡ times_mod modulus (v / 2 ^ (4 * j) % 16 * 2 ^ (4 * j)) a
-    → bit_xor s e ≡ times_mod modulus (v % 2 ^ (4 * (j + 1))) a
-half_byte_more a v j s e p q =
-    ap₂ bit_xor p q ∙ sym (mod_xor_l modulus pos (v % 2 ^ (4 * j)) (v / 2 ^ (4 * j) % 16 * 2 ^ (4 * j)) a)
+-- both halves of a byte b in place j
+both_halves : (a j b low high : ℕ) → b < 256 → low ≡ multiple a j (b % 16) → high ≡ multiple a j (b / 16) → Added a (b * 2 ^ (8 * j)) low high
+both_halves a j b low high h p q =
+    ap₂ bit_xor (ap (times_mod modulus 16) q ∙ multiple_up modulus pos 4 (b / 16 * 2 ^ (8 * j)) a) p
+    ∙ sym (mod_xor_l modulus pos (b / 16 * 2 ^ (8 * j) * 2 ^ 4) (b % 16 * 2 ^ (8 * j)) a)
+    ∙ ap (λ (x : ℕ). times_mod modulus x a)
+    (ap (λ (x : ℕ). bit_xor x (b % 16 * 2 ^ (8 * j))) (mul_right_comm (b / 16) (2 ^ (8 * j)) (2 ^ 4))
+    ∙ xor_shl (b / 16 * 2 ^ 4) (b % 16) (8 * j)
+    ∙ ap (λ (x : ℕ). x * 2 ^ (8 * j)) (xor_shifted (b / 16) 4 (b % 16) (mod-lt b (pow_pos 4)) ∙ split b 4))
+
+-- the sums for the bytes below place j, and the entries for that at place j, whose bits and those above are r
+pub byte_added : (a v j r low high d e : ℕ) → r ≡ v / 2 ^ (8 * j) → d ≡ multiple a j (r % 16) → e ≡ multiple a j (r / 16 % 16)
+    → Added a (v % 2 ^ (8 * j)) low high → Added a (v % 2 ^ (8 * (j + 1))) (bit_xor low d) (bit_xor high e)
+byte_added a v j r low high d e left p q before =
+    ap (λ (x : ℕ). bit_xor x (bit_xor low d)) (mod_xor_r modulus pos 16 high e)
+    ∙ xor_swap (times_mod modulus 16 high) (times_mod modulus 16 e) low d
+    ∙ ap₂ bit_xor before (both_halves a j (r % 256) d e (mod-lt r (pow_pos 8)) (p ∙ ap (multiple a j) (omega arith)) (q ∙ ap (multiple a j) (omega arith)))
+    ∙ ap (λ (x : ℕ). bit_xor (times_mod modulus (v % 2 ^ (8 * j)) a) (times_mod modulus (x % 256 * 2 ^ (8 * j)) a)) left
+    ∙ sym (mod_xor_l modulus pos (v % 2 ^ (8 * j)) (v / 2 ^ (8 * j) % 256 * 2 ^ (8 * j)) a)
     ∙ ap (λ (x : ℕ). times_mod modulus x a) (sym (low_more v j))
 
--- what is left of v above the half bytes up to place j
-pub half_bytes_left : (v j : ℕ) → v / 2 ^ (4 * j) / 16 ≡ v / 2 ^ (4 * (j + 1))
-half_bytes_left v j =
-    div-div-eq-div-mul v (2 ^ (4 * j)) 16 ∙ ap (λ (n : ℕ). v / n) (sym (pow-add 2 (4 * j) 4) ∙ ap (λ (n : ℕ). 2 ^ n) four_more)
-  where
-    four_more : 4 * j + 4 ≡ 4 * (j + 1)
-    four_more = omega arith
-
--- the same of the upper half
-pub upper_left : (v n : ℕ) → v / n / 2 ^ 32 ≡ v / 2 ^ 32 / n
-upper_left v n = div-div-eq-div-mul v n (2 ^ 32) ∙ ap (λ (x : ℕ). v / x) (mul_comm n (2 ^ 32)) ∙ sym (div-div-eq-div-mul v (2 ^ 32) n)
-
--- both halves
-pub halves : (a v low high up : ℕ) → v < 2 ^ 64 → low ≡ times_mod modulus (v % 2 ^ 32) a → high ≡ times_mod modulus (v / 2 ^ 32 % 2 ^ 32) a
-    → up ≡ times_mod modulus (2 ^ 32) high → bit_xor up low ≡ times_mod modulus v a
-halves a v low high up h p q r =
-    ap₂ bit_xor
-    (r ∙ ap (times_mod modulus (2 ^ 32)) (q ∙ ap (λ (x : ℕ). times_mod modulus x a) (mod-eq_of_lt (omega arith))) ∙ multiple_up modulus pos 32 (v / 2 ^ 32) a) p
-    ∙ sym (mod_xor_l modulus pos (v / 2 ^ 32 * 2 ^ 32) (v % 2 ^ 32) a)
-    ∙ ap (λ (x : ℕ). times_mod modulus x a) (xor_shifted (v / 2 ^ 32) 32 (v % 2 ^ 32) (mod-lt v (pow_pos 32)) ∙ split v 32)
+-- what is left of v above the bytes up to place j
+pub bytes_left : (v j : ℕ) → v / 2 ^ (8 * j) / 256 ≡ v / 2 ^ (8 * (j + 1))
+bytes_left v j = div-div-eq-div-mul v (2 ^ (8 * j)) 256 ∙ ap (λ (n : ℕ). v / n) (eight_more j)
 
 -- ---- a part
 
@@ -160,9 +164,7 @@ pub word_finished : (a v u w : ℕ) (bs xs : List ℕ) → length bs < 8 → len
     → evaluation_state a u [] ≡ absorbed evaluation_family (evaluation_state a v bs) xs
 word_finished a v u w bs xs h l p q = rw (p, q) (sym (word_taken a v bs xs h l))
 
--- x times a, as the machine works it out
-pub doubled_word : (a b : ℕ) → a < 2 ^ 64 → b ≡ bit_xor (a * 2 % 2 ^ 64) (a / 2 ^ 63 * 0x1B) → b ≡ times_mod modulus 2 a
-doubled_word a b h e = e ∙ sym (double_word 63 0x1B a (omega arith) h)
+-- ---- x^4 times a word
 
 -- 0x1B times a polynomial
 abbrev low_times : ℕ → ℕ
@@ -175,41 +177,50 @@ times_low a =
     (times_xor_r a (bit_xor 1 2) 8 ∙ ap₂ bit_xor (times_xor_r a 1 2 ∙ ap₂ bit_xor (times_one_r a) (times_shl a 1)) (times_shl a 3))
     (times_shl a 4)
 
--- x^64 times half a word
-half_word_out : (a : ℕ) → a < 2 ^ 32 → remainder (a * 2 ^ 64) modulus ≡ low_times a
+-- x^64 times half a byte
+half_byte_out : (a : ℕ) → a < 16 → remainder (a * 2 ^ 64) modulus ≡ low_times a
 unfolding division times_mod
-half_word_out a h =
+half_byte_out a h =
     division_word 64 0x1B a (omega arith)
     ∙ ap (λ (x : ℕ). remainder x modulus) (times_low a)
     ∙ remainder_small modulus pos (low_times a)
     (small (low_times a)
     (xor_lt 64 (bit_xor (bit_xor a (a * 2)) (a * 8)) (a * 16) (xor_lt 64 (bit_xor a (a * 2)) (a * 8) (xor_lt 64 a (a * 2) (omega arith) (omega arith)) (omega arith)) (omega arith)))
 
--- x^32 times a
-half_word_times : (a : ℕ) → a < 2 ^ 64 → times_mod modulus (2 ^ 32) a ≡ bit_xor (a * 2 ^ 32 % 2 ^ 64) (low_times (a / 2 ^ 32))
+half_byte_times : (a : ℕ) → a < 2 ^ 64 → times_mod modulus 16 a ≡ bit_xor (a * 16 % 2 ^ 64) (low_times (a / 2 ^ 60))
 unfolding times_mod
-half_word_times a h =
-    ap (λ (x : ℕ). remainder x modulus) (times_comm (2 ^ 32) a ∙ times_shl a 32 ∙ whole)
-    ∙ remainder_xor modulus pos (a / 2 ^ 32 * 2 ^ 64) (a * 2 ^ 32 % 2 ^ 64)
-    ∙ ap₂ bit_xor (half_word_out (a / 2 ^ 32) (omega arith)) (remainder_small modulus pos (a * 2 ^ 32 % 2 ^ 64) (small (a * 2 ^ 32 % 2 ^ 64) (mod-lt (a * 2 ^ 32) (pow_pos 64))))
-    ∙ xor_comm (low_times (a / 2 ^ 32)) (a * 2 ^ 32 % 2 ^ 64)
+half_byte_times a h =
+    ap (λ (x : ℕ). remainder x modulus) (times_comm 16 a ∙ times_shl a 4 ∙ whole)
+    ∙ remainder_xor modulus pos (a / 2 ^ 60 * 2 ^ 64) (a * 16 % 2 ^ 64)
+    ∙ ap₂ bit_xor (half_byte_out (a / 2 ^ 60) (omega arith)) (remainder_small modulus pos (a * 16 % 2 ^ 64) (small (a * 16 % 2 ^ 64) (mod-lt (a * 16) (pow_pos 64))))
+    ∙ xor_comm (low_times (a / 2 ^ 60)) (a * 16 % 2 ^ 64)
   where
-    whole : a * 2 ^ 32 ≡ bit_xor (a / 2 ^ 32 * 2 ^ 64) (a * 2 ^ 32 % 2 ^ 64)
+    whole : a * 16 ≡ bit_xor (a / 2 ^ 60 * 2 ^ 64) (a * 16 % 2 ^ 64)
     whole =
-        sym (split (a * 2 ^ 32) 64)
-        ∙ sym (xor_shifted (a * 2 ^ 32 / 2 ^ 64) 64 (a * 2 ^ 32 % 2 ^ 64) (mod-lt (a * 2 ^ 32) (pow_pos 64)))
-        ∙ ap (λ (x : ℕ). bit_xor (x * 2 ^ 64) (a * 2 ^ 32 % 2 ^ 64)) (omega arith)
+        sym (split (a * 16) 64)
+        ∙ sym (xor_shifted (a * 16 / 2 ^ 64) 64 (a * 16 % 2 ^ 64) (mod-lt (a * 16) (pow_pos 64)))
+        ∙ ap (λ (x : ℕ). bit_xor (x * 2 ^ 64) (a * 16 % 2 ^ 64)) (omega arith)
 
--- the sum, as the machine works it out: nothing is shifted out of what came out of a
-pub half_word_folded : (a : ℕ) → a < 2 ^ 64
-    → bit_xor (bit_xor (bit_xor (bit_xor (a * 2 ^ 32 % 2 ^ 64) (a / 2 ^ 32)) (a / 2 ^ 32 * 2 % 2 ^ 64)) (a / 2 ^ 32 * 8 % 2 ^ 64)) (a / 2 ^ 32 * 16 % 2 ^ 64)
-    ≡ times_mod modulus (2 ^ 32) a
-half_word_folded a h =
-    ap₂ bit_xor (ap₂ bit_xor (ap (bit_xor (bit_xor (a * 2 ^ 32 % 2 ^ 64) (a / 2 ^ 32))) (mod-eq_of_lt (omega arith))) (mod-eq_of_lt (omega arith))) (mod-eq_of_lt (omega arith))
-    ∙ sorted (a * 2 ^ 32 % 2 ^ 64) (a / 2 ^ 32)
-    ∙ sym (half_word_times a h)
-  where
-    sorted : (l o : ℕ) → bit_xor (bit_xor (bit_xor (bit_xor l o) (o * 2)) (o * 8)) (o * 16) ≡ bit_xor l (low_times o)
-    sorted l o =
-        ap (λ (x : ℕ). bit_xor x (o * 16)) (ap (λ (x : ℕ). bit_xor x (o * 8)) (xor_assoc l o (o * 2)) ∙ xor_assoc l (bit_xor o (o * 2)) (o * 8))
-        ∙ xor_assoc l (bit_xor (bit_xor o (o * 2)) (o * 8)) (o * 16)
+-- the entries from place i on
+abbrev Folded : ℕ → List ℕ → Type 0
+Folded i [] = Unit {0}
+Folded i (x ∷ xs) = (x ≡ low_times i) × Folded (suc i) xs
+
+folded_at : (i d : ℕ) (xs : List ℕ) → Folded i xs → d < length xs → get_or xs d 0 ≡ low_times (i + d)
+folded_at i d [] f h = absurd (omega arith)
+folded_at i zero (x ∷ xs) f h = let e : i ≡ i + 0 = omega arith in f.0 ∙ ap low_times e
+folded_at i (suc d) (x ∷ xs) f h = let e : suc i + d ≡ i + suc d = omega arith in folded_at (suc i) d xs f.1 (omega arith) ∙ ap low_times e
+
+folded : List ℕ
+folded = 0x00 ∷ (0x1B ∷ (0x36 ∷ (0x2D ∷ (0x6C ∷ (0x77 ∷ (0x5A ∷ (0x41 ∷ (0xD8 ∷ (0xC3 ∷ (0xEE ∷ (0xF5 ∷ (0xB4 ∷ (0xAF ∷ (0x82 ∷ (0x99 ∷ [])))))))))))))))
+
+all_folded : Folded 0 folded
+unfolding folded
+all_folded = (refl, (refl, (refl, (refl, (refl, (refl, (refl, (refl, (refl, (refl, (refl, (refl, (refl, (refl, (refl, (refl, tt))))))))))))))))
+
+-- as the machine works it out
+pub half_byte_folded : (a : ℕ) → a < 2 ^ 64
+    → bit_xor (a * 16 % 2 ^ 64) (get_or (0x00 ∷ (0x1B ∷ (0x36 ∷ (0x2D ∷ (0x6C ∷ (0x77 ∷ (0x5A ∷ (0x41 ∷ (0xD8 ∷ (0xC3 ∷ (0xEE ∷ (0xF5 ∷ (0xB4 ∷ (0xAF ∷ (0x82 ∷ (0x99 ∷ [])))))))))))))))) (a / 2 ^ 60) 0)
+    ≡ times_mod modulus 16 a
+unfolding folded
+half_byte_folded a h = ap (bit_xor (a * 16 % 2 ^ 64)) (folded_at 0 (a / 2 ^ 60) folded all_folded (omega arith) ∙ ap low_times (zero-add (a / 2 ^ 60))) ∙ sym (half_byte_times a h)

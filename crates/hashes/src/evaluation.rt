@@ -10,7 +10,7 @@ ghost use Rattle.hashes.specs.EvaluationFamily.{evaluation_lawful};
 
 use crate::family::Family;
 use crate::key_fault::KeyFault;
-use crate::polynomial::{double, multiples};
+use crate::polynomial::multiples;
 use crate::word::word_of;
 use std::marker::Model;
 
@@ -22,16 +22,16 @@ const KEY_LEN: usize = 8;
 // The low word of the modulus x^64 + x^4 + x^3 + x + 1.
 const MODULUS: u64 = 0x1B;
 
-// The multiples of a point by half bytes, for half of a word: row j has d x^(4j) times the point at place d.
+// The multiples of a point by the lower half of each byte: row j has d x^(8j) times the point at place d.
 #[derive(Drop)]
 struct Multiples {
     point: u64,
     rows: [[u64; 16]; 8],
-    ghost filled: { (j d : ℕ) → j < 8 → d < 16 → slice_index (slice_index_or rows j []) d ≡ times_mod modulus (d * 2 ^ (4 * j)) point },
+    ghost filled: { (j d : ℕ) → j < 8 → d < 16 → slice_index (slice_index_or rows j []) d ≡ times_mod modulus (d * 2 ^ (8 * j)) point },
 }
 
 impl Multiples {
-    // Each row has the multiples of x^4 times what the row before it has the multiples of.
+    // Each row has the multiples of a power times the point, and the next row those of x^8 times as much.
     fn new(point: u64) -> Multiples
         ensures { result.point ≡ point }
     {
@@ -39,12 +39,12 @@ impl Multiples {
         let mut power = point;
         for row in &mut rows {
             *row = multiples(power, MODULUS);
-            power = half_byte_up(power);
+            power = byte_up(power);
         }
         Multiples { point, rows }
     }
 
-    // v times the point: one lookup for each half byte of v. Those of the upper half are added up as if they stood in the lower one, and moved up at the end.
+    // v times the point: one lookup for each half byte of v. The upper ones are added up as if they were the lower ones, and moved up at the end.
     fn times(&self, v: u64) -> u64
         ensures { result ≡ times_mod modulus v self.now.point }
     {
@@ -53,10 +53,10 @@ impl Multiples {
         let mut rest = v;
         for row in &self.rows {
             low ^= row[(rest % 16) as usize];
-            high ^= row[((rest >> 32) % 16) as usize];
-            rest >>= 4;
+            high ^= row[((rest >> 4) % 16) as usize];
+            rest >>= 8;
         }
-        half_word_up(high) ^ low
+        half_byte_up(high) ^ low
     }
 
     // The value times the point, and the next word.
@@ -67,29 +67,25 @@ impl Multiples {
     }
 }
 
-// x times a.
-#[tactic(auto, using(crate::proofs::EvaluationSteps::doubled_word))]
-fn bit_up(a: u64) -> u64
-    ensures { result ≡ times_mod modulus 2 a }
-{
-    double(a, MODULUS)
-}
+// d times the low word of the modulus at place d: what four bits that go out at the top come in as.
+const FOLDED: [u64; 16] = [
+    0x00, 0x1B, 0x36, 0x2D, 0x6C, 0x77, 0x5A, 0x41, 0xD8, 0xC3, 0xEE, 0xF5, 0xB4, 0xAF, 0x82, 0x99,
+];
 
 // x^4 times a.
-#[tactic(auto, using(crate::proofs::EvaluationSteps::multiple_even))]
+#[tactic(auto, using(crate::proofs::EvaluationSteps::half_byte_folded))]
 fn half_byte_up(a: u64) -> u64
     ensures { result ≡ times_mod modulus 16 a }
 {
-    bit_up(bit_up(bit_up(bit_up(a))))
+    (a << 4) ^ FOLDED[(a >> 60) as usize]
 }
 
-// x^32 times a: what goes out at the top comes in below, times the low word of the modulus.
-#[tactic(auto, using(crate::proofs::EvaluationSteps::half_word_folded))]
-fn half_word_up(a: u64) -> u64
-    ensures { result ≡ times_mod modulus (2 ^ 32) a }
+// x^8 times a.
+#[tactic(auto, using(crate::proofs::EvaluationSteps::half_byte_twice))]
+fn byte_up(a: u64) -> u64
+    ensures { result ≡ times_mod modulus 256 a }
 {
-    let out = a >> 32;
-    (a << 32) ^ out ^ (out << 1) ^ (out << 3) ^ (out << 4)
+    half_byte_up(half_byte_up(a))
 }
 
 // What finishes a word: 80, and then 00.

@@ -15,6 +15,6 @@ loop-row-preserved c =
     let power = c.loop-row.invariant.power in
     record {
       sized = length-set c.loop-row.row-items j _ ∙ c.loop-row.invariant.sized;
-      power = next_power a j c.loop-row.power c.half_byte_up-power.result power c.half_byte_up-power.ensures;
+      power = next_power a j c.loop-row.power c.byte_up-power.result power c.byte_up-power.ensures;
       rows = rows_more a j c.loop-row.row-items _ (omega (arith, c.loop-row.invariant.sized, c.loop-row-test.true)) (row_at a j c.loop-row.power _ power c.multiples.ensures) c.loop-row.invariant.rows;
     }
