@@ -1,5 +1,5 @@
 -- The evaluation hash's steps: a product by half bytes, and the bytes of a part.
-use Rattle.std.proofs.Common.{◌≡◌, ℕ, zero, suc, ◌+◌, ◌-◌, ◌*◌, ◌/◌, ◌%◌, ◌^◌, ◌<◌, ◌≢◌, Bool, true, false, cond, eqb, List, [], ◌∷◌, ◌++◌, length, get_or, set, sym, refl, ap, ◌∙◌, ap₂, append_assoc, append-nil, mod-lt, mul_comm, mul_right_comm, zero-add, arith, length-append, pow_pos, pow-add, get_or-set_other, get_or-set_same, below_more}
+use Rattle.std.proofs.Common.{◌≡◌, ℕ, zero, suc, ◌+◌, ◌*◌, ◌/◌, ◌%◌, ◌^◌, ◌<◌, ◌≢◌, Bool, true, false, cond, eqb, List, [], ◌∷◌, ◌++◌, length, get_or, set, sym, refl, ap, ◌∙◌, ap₂, append_assoc, append-nil, mod-lt, mul_right_comm, zero-add, arith, length-append, pow_pos, pow-add, get_or-set_other, get_or-set_same, below_more}
 use native.Mathlib.Decide.{ℕ_discrete}
 use native.Mathlib.Nat.{div-div-eq-div-mul, mod-one}
 use lib.Bits.{bit_xor, xor_comm, xor_shifted}

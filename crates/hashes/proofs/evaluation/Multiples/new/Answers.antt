@@ -1,4 +1,4 @@
-use Rattle.std.proofs.Common.{◌+◌, ◌∙◌, refl, arith, rules, length-set}
+use Rattle.std.proofs.Common.{◌∙◌, refl, arith, length-set}
 use Rattle.hashes.proofs.EvaluationSteps.{first_power, next_power, row_at, rows_more}
 use Rattle.hashes.proofs.evaluation.Multiples.new.Goals as goal
 
