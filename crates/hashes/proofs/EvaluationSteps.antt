@@ -97,8 +97,8 @@ low_more v j =
     eight = omega arith
 
 -- both halves of a byte b in place j
-both_halves : (a j b low high : ℕ) → b < 256 → low ≡ multiple a j (b % 16) → high ≡ multiple a j (b / 16) → Added a (b * 2 ^ (8 * j)) low high
-both_halves a j b low high h p q =
+both_halves : (a j b low high : ℕ) → low ≡ multiple a j (b % 16) → high ≡ multiple a j (b / 16) → Added a (b * 2 ^ (8 * j)) low high
+both_halves a j b low high p q =
     ap₂ bit_xor (ap (times_mod modulus 16) q ∙ multiple_up modulus pos 4 (b / 16 * 2 ^ (8 * j)) a) p
     ∙ sym (mod_xor_l modulus pos (b / 16 * 2 ^ (8 * j) * 2 ^ 4) (b % 16 * 2 ^ (8 * j)) a)
     ∙ ap (λ (x : ℕ). times_mod modulus x a)
@@ -112,7 +112,7 @@ pub byte_added : (a v j r low high d e : ℕ) → r ≡ v / 2 ^ (8 * j) → d �
 byte_added a v j r low high d e left p q before =
     ap (λ (x : ℕ). bit_xor x (bit_xor low d)) (mod_xor_r modulus pos 16 high e)
     ∙ xor_swap (times_mod modulus 16 high) (times_mod modulus 16 e) low d
-    ∙ ap₂ bit_xor before (both_halves a j (r % 256) d e (mod-lt r (pow_pos 8)) (p ∙ ap (multiple a j) (omega arith)) (q ∙ ap (multiple a j) (omega arith)))
+    ∙ ap₂ bit_xor before (both_halves a j (r % 256) d e (p ∙ ap (multiple a j) (omega arith)) (q ∙ ap (multiple a j) (omega arith)))
     ∙ ap (λ (x : ℕ). bit_xor (times_mod modulus (v % 2 ^ (8 * j)) a) (times_mod modulus (x % 256 * 2 ^ (8 * j)) a)) left
     ∙ sym (mod_xor_l modulus pos (v % 2 ^ (8 * j)) (v / 2 ^ (8 * j) % 256 * 2 ^ (8 * j)) a)
     ∙ ap (λ (x : ℕ). times_mod modulus x a) (sym (low_more v j))
