@@ -39,7 +39,7 @@ impl Multiples {
         let mut rows = [[0; 16]; 8];
         let mut power = point;
         for row in &mut rows {
-            *row = multiples(power, MODULUS);
+            *row = row_of(power);
             power = byte_up(power);
         }
         Multiples { point, rows }
@@ -66,6 +66,13 @@ impl Multiples {
     {
         self.times(value) ^ word
     }
+}
+
+// The products of the half bytes and a.
+fn row_of(a: u64) -> [u64; 16]
+    ensures { (d : ℕ) → d < 16 → slice_index result d ≡ times_mod modulus d a }
+{
+    multiples(a, MODULUS)
 }
 
 // d times the low word of the modulus at place d: what four bits that go out at the top come in as.
