@@ -37,6 +37,7 @@ impl<'a> Cursor<'a> {
     }
 
     // The byte `b`.
+    #[inline(always)]
     fn byte(&mut self, b: u8) -> Result<(), ReadFault>
         ensures { read_word (b ∷ []) self.old ≡ (self.new, result) }
     {
@@ -45,6 +46,7 @@ impl<'a> Cursor<'a> {
     }
 
     // The word `word`.
+    #[inline(always)]
     fn word(&mut self, word: &[u8]) -> Result<(), ReadFault>
         ensures { read_word word.now self.old ≡ (self.new, result) }
     {
@@ -55,6 +57,7 @@ impl<'a> Cursor<'a> {
     }
 
     // A number: a byte that may lead one, and five digits at most.
+    #[inline(always)]
     fn number(&mut self) -> Result<u32, ReadFault>
         ensures { read_number self.old ≡ (self.new, result) }
     {
@@ -75,6 +78,7 @@ impl<'a> Cursor<'a> {
     }
 
     // The letter of an escape, after its backslash, as the byte that the two give.
+    #[inline(always)]
     fn escape(&mut self) -> Result<u8, ReadFault>
         ensures { read_escape self.old ≡ (self.new, result) }
     {
@@ -85,6 +89,7 @@ impl<'a> Cursor<'a> {
     }
 
     // One character of a name, as its byte. None where the name ends.
+    #[inline(always)]
     pub(crate) fn character(&mut self) -> Result<Option<u8>, ReadFault>
         ensures { read_character self.old ≡ (self.new, result) }
     {
@@ -103,6 +108,7 @@ impl<'a> Cursor<'a> {
     }
 
     // A name as it is written.
+    #[inline(always)]
     fn name(&mut self) -> Result<&'a [u8], ReadFault>
         ensures { read_name self.old ≡ (self.new, held result) }
     {
@@ -112,6 +118,7 @@ impl<'a> Cursor<'a> {
     }
 
     // The word of a kind.
+    #[inline(always)]
     fn kind(&mut self) -> Result<Kind, ReadFault>
         ensures { read_kind self.old ≡ (self.new, result) }
     {
@@ -121,6 +128,7 @@ impl<'a> Cursor<'a> {
     }
 
     // Bytes up to a line feed or the end.
+    #[inline(always)]
     fn remark(&mut self)
         ensures { past_remark self.old ≡ self.new }
     {
@@ -129,6 +137,7 @@ impl<'a> Cursor<'a> {
     }
 
     // A comment.
+    #[inline(always)]
     fn comment(&mut self) -> Result<Line<'a>, ReadFault>
         ensures { read_comment self.old ≡ (self.new, told result) }
     {
@@ -138,6 +147,7 @@ impl<'a> Cursor<'a> {
     }
 
     // A line `zone N "NAME"`.
+    #[inline(always)]
     fn zone(&mut self) -> Result<Line<'a>, ReadFault>
         ensures { read_zone self.old ≡ (self.new, told result) }
     {
@@ -150,6 +160,7 @@ impl<'a> Cursor<'a> {
     }
 
     // A line `point N Z KIND`.
+    #[inline(always)]
     fn point(&mut self) -> Result<Line<'a>, ReadFault>
         ensures { read_point self.old ≡ (self.new, told result) }
     {
@@ -163,6 +174,7 @@ impl<'a> Cursor<'a> {
     }
 
     // A line `rule Z N`.
+    #[inline(always)]
     fn rule(&mut self) -> Result<Line<'a>, ReadFault>
         ensures { read_rule self.old ≡ (self.new, told result) }
     {
@@ -174,6 +186,7 @@ impl<'a> Cursor<'a> {
     }
 
     // A line of the form that its first byte tells. Where that tells none, no byte is taken.
+    #[inline(always)]
     fn form(&mut self) -> Result<Line<'a>, ReadFault>
         ensures { read_form self.old ≡ (self.new, told result) }
     {
@@ -198,6 +211,7 @@ impl<'a> Cursor<'a> {
     }
 
     // A line of the grammar, to its end.
+    #[inline(always)]
     pub(crate) fn line(&mut self) -> Result<Line<'a>, ReadFault>
         ensures { read_whole self.old ≡ (self.new, told result) }
     {

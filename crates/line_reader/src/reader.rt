@@ -9,6 +9,7 @@ use crate::fault::ReadFault;
 use crate::line::Line;
 
 // What a line says, or its fault and the column where it is.
+#[inline(always)]
 pub fn read_line<'a>(line: &'a [u8]) -> Result<Line<'a>, (ReadFault, usize)>
     ensures reads { told result ≡ reading line.now }
     ensures exact { ReadingsExact }
