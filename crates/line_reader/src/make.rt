@@ -1,7 +1,8 @@
 // Making the image of a text.
 ghost use Rattle.std.specs.Iterator.{at_most};
+ghost use Rattle.std.specs.List.{position_or_len};
 ghost use Rattle.std.specs.Option.{option_map};
-ghost use Rattle.std.specs.Prelude.{◌≡◌, length, replicate};
+ghost use Rattle.std.specs.Prelude.{◌≡◌, ◌==◌, length, replicate};
 ghost use Rattle.line_reader.specs.Making.{TextsPass, made};
 ghost use Rattle.line_reader.specs.Sending.{SendsLines, wiped};
 ghost use Rattle.line_reader.specs.Texts.{TakesLine};
@@ -13,6 +14,23 @@ use hashes::family::Family;
 use register::framing::{SEAL, SEAL_FIELD, SEAL_VALUE};
 use register::output::put_bytes;
 use register::register::Register;
+use std::simd::prelude::*;
+
+// How many bytes stand before the first line feed; all of them if there is none.
+// Most lines have fewer than sixteen bytes, so that many are compared at once: one after another they took as long as all of reading the line.
+fn line_len(text: &[u8]) -> usize
+    ensures { result ≡ position_or_len (λ b. b == 10) text.now }
+{
+    if text.len() >= 16 {
+        let feeds = u8x16::from_slice(text)
+            .simd_eq(u8x16::splat(b'\n'))
+            .to_bitmask();
+        if feeds != 0 {
+            return feeds.trailing_zeros() as usize;
+        }
+    }
+    text.iter().position(|b| *b == b'\n').unwrap_or(text.len())
+}
 
 // Goes through a text line by line. Not `split_inclusive`: in a generic function the check cannot state a `for` over that.
 #[derive(Drop)]
@@ -40,8 +58,7 @@ impl<'a> Iterator for Lines<'a> {
         if self.rest.is_empty() {
             return None;
         }
-        let end = self.rest.iter().position(|b| *b == b'\n');
-        let (line, after) = self.rest.split_at(end.unwrap_or(self.rest.len()));
+        let (line, after) = self.rest.split_at(line_len(self.rest));
         // Past the line feed, if there is one.
         self.rest = after.get(1..).unwrap_or(&[]);
         Some(line)
