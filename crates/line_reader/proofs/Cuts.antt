@@ -60,7 +60,7 @@ some_passes p (x ∷ xs) some = step (p x) (mask_l (map p xs)) (prefix_len (λ y
 pub first_in_mask : (t : List ℕ) (m : ℕ) → 16 ≤ length t → m ≡ mask_l (map (λ b. eqb b 10) (chunk 0 16 t)) → 0 < m → count_trailing_zeros 64 m ≡ position_or_len (λ b. eqb b 10) t
 first_in_mask t m room is some =
     sym (position_or_len_is feed t r 0 (omega (arith, few)) (λ k h. run_in_chunk_fails feed t 0 16 r 0 room counted k (omega arith) (omega (arith, h)))
-        (λ _. ap (λ i. feed (get_or t i 0)) from_front ∙ run_in_chunk_stops feed t 0 16 r 0 room counted few))
+    (λ _. ap (λ i. feed (get_or t i 0)) from_front ∙ run_in_chunk_stops feed t 0 16 r 0 room counted few))
   where
     feed : ℕ → Bool
     feed b = eqb b 10

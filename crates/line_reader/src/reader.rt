@@ -8,7 +8,7 @@ use crate::cursor::Cursor;
 use crate::fault::ReadFault;
 use crate::line::Line;
 
-// What a line says, or its fault and the column where it is.
+// What a line says, or its fault and the column where it is. Inlined as the stages are: the answer stays in registers too.
 #[inline(always)]
 pub fn read_line<'a>(line: &'a [u8]) -> Result<Line<'a>, (ReadFault, usize)>
     ensures reads { told result ≡ reading line.now }

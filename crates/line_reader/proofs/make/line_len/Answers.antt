@@ -1,5 +1,5 @@
 -- Each mask has a bit for each line feed.
-use Rattle.std.proofs.Common.{eqb, sym, ap, ◌∙◌, length, rules, tests, arith, w8}
+use Rattle.std.proofs.Common.{eqb, ap, ◌∙◌, length, rules, tests, arith, w8}
 use Rattle.std.specs.Option.{unwrap_or}
 use Rattle.std.proofs.lemmas.Iterator.{YieldsList-from_slice}
 use Rattle.std.proofs.lemmas.Iterator.Search.{position_from_yields_List}
