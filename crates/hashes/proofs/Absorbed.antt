@@ -1,20 +1,12 @@
 -- How a state moves on over joined parts.
-use Rattle.std.proofs.Common.{◌≡◌, ℕ, zero, suc, ◌+◌, ◌*◌, ◌<◌, List, ◌++◌, length, get_or, take, drop, fold, sym, ap, ◌∙◌, add_comm, suc-mul, zero-mul, take-add, take-append-drop}
+use Rattle.std.proofs.Common.{◌≡◌, ℕ, zero, suc, ◌*◌, List, ◌++◌, take, drop, fold, sym, ap, ◌∙◌, add_comm, suc-mul, zero-mul, take-append-drop}
 use Rattle.std.proofs.lemmas.List.{drop-drop}
-use Rattle.std.proofs.lemmas.List.Sums.{fold-append, fold_more}
+use Rattle.std.proofs.lemmas.List.Sums.{fold-append}
 use Rattle.std.specs.Simd.{first_chunks}
 use Rattle.hashes.specs.Family.{Meaning, absorbed}
 
 pub absorbed_append : (M : Meaning) (s : M.State) (xs ys : List ℕ) → absorbed M s (xs ++ ys) ≡ absorbed M (absorbed M s xs) ys
 absorbed_append M s xs ys = fold-append M.next s xs ys
-
--- one byte more of xs
-pub absorbed_more : (M : Meaning) (s : M.State) (xs : List ℕ) (i : ℕ) → i < length xs → absorbed M s (take (i + 1) xs) ≡ M.next (absorbed M s (take i xs)) (get_or xs i 0)
-absorbed_more M s xs i within = fold_more M.next s xs i 0 within
-
--- n bytes more of xs
-pub absorbed_part : (M : Meaning) (s : M.State) (xs : List ℕ) (i n : ℕ) → absorbed M s (take (i + n) xs) ≡ absorbed M (absorbed M s (take i xs)) (take n (drop i xs))
-absorbed_part M s xs i n = ap (absorbed M s) (take-add i n xs) ∙ absorbed_append M s (take i xs) (take n (drop i xs))
 
 -- the first i bytes of xs, and then the rest
 pub absorbed_split : (M : Meaning) (s : M.State) (xs : List ℕ) (i : ℕ) → absorbed M (absorbed M s (take i xs)) (drop i xs) ≡ absorbed M s xs

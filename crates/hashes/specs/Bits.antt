@@ -17,7 +17,7 @@ digit_lt a = mod-lt a (zero-lt-suc 1)
 pub by_halves : (a b : ℕ) → a / 2 ≡ b / 2 → a % 2 ≡ b % 2 → a ≡ b
 by_halves a b h k = omega arith
 
--- ---- bitAnd
+-- ---- bit_and
 
 pub half_and : (a b : ℕ) → bit_and a b / 2 ≡ bit_and (a / 2) (b / 2)
 half_and a b = and_shr a b 1

@@ -26,11 +26,11 @@ division_step p rest b = remainder (bit_xor (rest * 2 ^ 8) (b * 2 ^ 64)) (2 ^ 64
 
 -- between two bytes: the key's word, and the remainder so far
 pub record DivisionState : Type 0 where
-  pub modulus : ℕ
+  pub p : ℕ
   pub rest : ℕ
 
 abbrev pub division_state : ℕ → ℕ → DivisionState
-division_state p rest = record { modulus = p; rest = rest }
+division_state p rest = record { p = p; rest = rest }
 
 -- The first remainder is that of the leading one: x^64 modulo x^64 + p is p.
 abbrev pub division_family : Meaning
@@ -40,7 +40,7 @@ division_family = record {
   key_len = 8;
   refusal = λ key. reducible_refusal (word key);
   first = λ key. division_state (word key) (word key);
-  next = λ s b. division_state s.modulus (division_step s.modulus s.rest b);
+  next = λ s b. division_state s.p (division_step s.p s.rest b);
   close = λ s. s.rest;
   bound = λ L. L / 8 + 1;
 }

@@ -11,7 +11,8 @@ pub mod KeyFault
 pub mod Division
 pub mod Toeplitz
 pub mod Evaluation
--- From here on lemmas, which need no belief: the proof of a family's law may name only what stands in this folder.
+-- From here on lemmas, which need no belief: the proof of a family's law may name only what stands in this folder. The definitions among them
+-- are cited by contracts of private functions alone.
 -- lists
 pub mod Counting
 pub mod Pairs

@@ -20,7 +20,7 @@ const CODE: u8 = 3;
 const KEY_LEN: usize = 8;
 
 // The low word of the modulus x^64 + x^4 + x^3 + x + 1.
-const MODULUS: u64 = 0x1B;
+const LOW_WORD: u64 = 0x1B;
 
 // The multiples of a point by the lower half of each byte: row j has d x^(8j) times the point at place d. The same rows serve the upper halves, so the
 // table is half as large: it is made anew for each key, and moved when a hash is.
@@ -72,7 +72,7 @@ impl Multiples {
 fn row_of(a: u64) -> [u64; 16]
     ensures { (d : ℕ) → d < 16 → slice_index result d ≡ times_mod modulus d a }
 {
-    multiples(a, MODULUS)
+    multiples(a, LOW_WORD)
 }
 
 // d times the low word of the modulus at place d: what four bits that go out at the top come in as.
@@ -99,8 +99,8 @@ fn byte_up(a: u64) -> u64
 // What finishes a word: 80, and then 00.
 const PADDING: [u8; 8] = [0x80, 0, 0, 0, 0, 0, 0, 0];
 
-// The bytes of a word that is under way, fewer than eight, as the low bytes of `word`; what stands above them does not count. Bytes that are written
-// to memory one by one would have to arrive there before they could be read as a word.
+// The bytes of a word that is under way, fewer than eight, as the low bytes of `word`; what stands above them does not count. No array:
+// bytes stored one by one cannot be read back as a word before all the stores are done.
 #[derive(Drop)]
 struct Pending {
     word: u64,

@@ -24,7 +24,7 @@ fn has_linear_factor(p: u64) -> bool
     p % 2 == 0 || p.count_ones() % 2 == 1
 }
 
-// Whether x, squared again and again modulo x^64 + p, is back after 64 squarings, and was not after 32.
+// Whether x, squared again and again modulo x^64 + p, is back after 64 squarings, and was not after 32. The word 2 is x.
 fn back_at_last(p: u64) -> bool
     ensures { Decides result (BackAtLast (2 ^ 64 + p) 32) }
 {

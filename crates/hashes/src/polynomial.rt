@@ -6,7 +6,7 @@ ghost use Rattle.hashes.specs.Laws.{PolynomialLaws};
 ghost use Rattle.hashes.specs.Polynomial.{times_mod};
 
 // x times a, modulo x^64 + w: the top bit goes out, and has w added in its place.
-pub(crate) fn double(a: u64, w: u64) -> u64
+fn double(a: u64, w: u64) -> u64
     ensures { result ≡ bit_xor (a * 2 % 2 ^ 64) (a / 2 ^ 63 * w) }
 {
     (a << 1) ^ ((a >> 63) * w)

@@ -6,7 +6,7 @@ use Rattle.hashes.specs.KeyFault as key
 use Rattle.register.specs.Image.{seal_field}
 use Rattle.register.specs.Records.{Record, bytes_of, message}
 use Rattle.register.specs.View.{View, key_of, opening, pad_of, sealed}
-use Rattle.register.specs.Writing.{Holds, padded, put}
+use Rattle.register.specs.Writing.{Holds, filled_up, put}
 use Rattle.register.proofs.Writings.{put_more}
 use Rattle.line_reader.specs.Making.{Making, all_taken, Sent, eight, made, made_by, making, sealed_image, sent, unmade}
 use Rattle.line_reader.specs.Texts.{lines_of}
@@ -28,7 +28,7 @@ module _ (M : Meaning) (k : List ℕ) (pad room : ℕ) (rs : List Record) where
 
   -- the choice by the room
   abbrev by_room : Bool → Making
-  by_room b = cond b (Ok (length (sealed_image M k pad rs)), padded room (sealed_image M k pad rs)) (unmade room 50 0 0)
+  by_room b = cond b (Ok (length (sealed_image M k pad rs)), filled_up room (sealed_image M k pad rs)) (unmade room 50 0 0)
 
   -- there is none for the image
   pub making_full : room < length (message rs) + 12 → making M k pad room (all_taken rs) ≡ unmade room 50 0 0
@@ -43,15 +43,15 @@ module _ (M : Meaning) (k : List ℕ) (pad room : ℕ) (rs : List Record) where
       (e ∙ put_more room (message rs) (bytes_of (seal_field M.code (eight (sealed M k pad rs)))) out (omega (arith, h, image_length)) (holds (omega arith)))
       ∙ sym (ap by_room (le-leb (length (sealed_image M k pad rs)) room (omega (arith, h, image_length))))
 
-own_padded : (i : List ℕ) → padded (length i) i ≡ i
-own_padded i = let z : length i - length i ≡ 0 = omega arith in ap (λ (n : ℕ). i ++ replicate n 0) z ∙ append-nil i
+own_filled_up : (i : List ℕ) → filled_up (length i) i ≡ i
+own_filled_up i = let z : length i - length i ≡ 0 = omega arith in ap (λ (n : ℕ). i ++ replicate n 0) z ∙ append-nil i
 
 -- an output that has room for the image and no more
 pub making_own : (M : Meaning) (k : List ℕ) (pad : ℕ) (rs : List Record)
     → making M k pad (length (sealed_image M k pad rs)) (all_taken rs) ≡ (Ok (length (sealed_image M k pad rs)), sealed_image M k pad rs)
 making_own M k pad rs =
     let i = sealed_image M k pad rs in
-    ap (by_room M k pad (length i) rs) (le-leb (length i) (length i) (omega arith)) ∙ ap (answered (length i)) (own_padded i)
+    ap (by_room M k pad (length i) rs) (le-leb (length i) (length i) (omega arith)) ∙ ap (answered (length i)) (own_filled_up i)
 
 same_length : (m n : ℕ) → ◌≡◌ {A = Result ℕ (ℕ × (ℕ × ℕ))} (Ok m) (Ok n) → m ≡ n
 same_length m n e = cc
@@ -67,6 +67,6 @@ making_is M k pad rs bytes = go (leb (length (sealed_image M k pad rs)) (length 
     go : (b : Bool) → by_room M k pad (length bytes) rs b ≡ (Ok (length bytes), bytes) → bytes ≡ sealed_image M k pad rs
     go true e =
         sym (ap (λ (m : Making). m.1) e)
-        ∙ ap (λ (n : ℕ). padded n (sealed_image M k pad rs)) (sym (same_length _ _ (ap (λ (m : Making). m.0) e)))
-        ∙ own_padded (sealed_image M k pad rs)
+        ∙ ap (λ (n : ℕ). filled_up n (sealed_image M k pad rs)) (sym (same_length _ _ (ap (λ (m : Making). m.0) e)))
+        ∙ own_filled_up (sealed_image M k pad rs)
     go false e = not_made _ _ (ap (λ (m : Making). m.0) e)

@@ -8,7 +8,7 @@ use Rattle.register.specs.Image.{image}
 use Rattle.register.specs.Records.{Record}
 use Rattle.register.specs.Run.{Reply, taken, refused, step}
 use Rattle.register.specs.View.{View, key_of, opening, pad_of, sealed}
-use Rattle.register.specs.Writing.{padded}
+use Rattle.register.specs.Writing.{filled_up}
 use Rattle.line_reader.specs.Calls.{line_input}
 use Rattle.line_reader.specs.Texts.{lines_of}
 
@@ -50,7 +50,7 @@ unmade room number line column = (Err (number, (line, column)), replicate room 0
 abbrev pub making : Meaning → List ℕ → ℕ → ℕ → Sent → Making
 making M key pad room (all_taken rs) =
     let i = sealed_image M key pad rs in
-    cond (nat_le (length i) room) (Ok (length i), padded room i) (unmade room 50 0 0)
+    cond (nat_le (length i) room) (Ok (length i), filled_up room i) (unmade room 50 0 0)
 making M key pad room (stopped number line column) = unmade room number line column
 
 abbrev pub made_by : (M : Meaning) → List ℕ → List ℕ → ℕ → key.Answer (View M) → Making

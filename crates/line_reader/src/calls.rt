@@ -29,7 +29,7 @@ pub enum Call<'a> {
     Rule { zone: u32, point: u32 },
 }
 
-// As in the register, each call here says what it answers, leaves and keeps: that is of a call, and no invariant sees it.
+// As in the register, each function says what it answers, leaves and keeps: that is of a call, before and after it.
 
 // Declares a zone by a name as it is written. A name that has no room here is too long for the book.
 fn named_zone<F: Family>(
@@ -43,7 +43,7 @@ fn named_zone<F: Family>(
     ensures writes { out.new ≡ output_after F.meaning (view F.meaning F.state register.old) (Record.zone number (decoded name.now)) out.old }
     ensures keeps { Keeps result register.old register.new }
 {
-    // Fixed memory, and a length beside it: there is no heap.
+    // One byte more than the longest name, so that a longer one is refused as such. Fixed memory, and a length beside it, since there is no heap.
     let mut bytes = [0; 41];
     let n = decode(name, &mut bytes);
     register.apply_into(

@@ -1,4 +1,4 @@
-// Why a line is refused. Each fault has a number.
+// Why a line, the making of an image, or an input of the program is refused. Each fault has a number.
 ghost use Rattle.line_reader.specs.Calls.{column_of_line_fault, number_of_line_fault};
 ghost use Rattle.line_reader.specs.Codes.{number_of_read_fault};
 ghost use Rattle.line_reader.specs.InputFaults.{number_of_input_fault, place_of_input_fault};
@@ -11,7 +11,7 @@ ghost use Rattle.std.specs.Prelude.{◌≡◌};
 use hashes::key_fault::KeyFault;
 use register::fault::RecordFault;
 
-// A refusal's number, with the line, from 1, and the column. Plain numbers, by a rule of the project.
+// A refusal's number, with the line, from 1, and the column. Plain numbers, as the program prints them and the exported functions pack them.
 pub type Refusal = (u8, (usize, usize));
 
 #[derive(Clone, Copy, Debug, PartialEq, Eq)]
@@ -50,7 +50,7 @@ impl LineFault {
         }
     }
 
-    // The column; 0, by a rule of the project, for a record that is refused.
+    // The column; 0 for a record that is refused, since no one byte of its line is at fault.
     pub fn column(&self) -> usize
         ensures { result ≡ column_of_line_fault self.now }
     {
@@ -101,7 +101,7 @@ impl MakeFault {
         }
     }
 
-    // The line and the column; 0 and 0, by a rule of the project, where no line is at fault.
+    // The line and the column; plain numbers, so 0 and 0 where no line is at fault.
     pub fn place(&self) -> (usize, usize)
         ensures { result ≡ place_of_make_fault self.now }
     {
@@ -143,7 +143,7 @@ impl InputFault {
         }
     }
 
-    // The line and the column; 0 and 0, by a rule of the project, where no line is at fault.
+    // The line and the column; plain numbers, so 0 and 0 where no line is at fault.
     pub fn place(&self) -> (usize, usize)
         ensures { result ≡ place_of_input_fault self.now }
     {

@@ -35,7 +35,7 @@ pub fn seal_calls<F: Family>(
 ) -> Result<u64, KeyFault>
     ensures seals { opened (λ s. s) result ≡ sealing F.meaning buffer.old calls.now }
     ensures replies { map line_reply answers.new ≡ placed (replies_if (opening F.meaning buffer.old) calls.now) (map line_reply answers.old) }
-    ensures wiped { buffer.new ≡ replicate (length buffer.old) 0 }
+    ensures cleared { buffer.new ≡ replicate (length buffer.old) 0 }
 {
     let mut register = Register::<F>::open(buffer)?;
     for (i, call) in calls.iter().enumerate() {
@@ -60,10 +60,10 @@ pub fn handover<F: Family>(
 ) -> (Result<u64, KeyFault>, Result<u64, KeyFault>)
     ensures seals { opened (λ s. s) result.0 ≡ sealing F.meaning buffer.old calls.now }
     ensures replies { map line_reply answers.new ≡ placed (replies_if (opening F.meaning buffer.old) calls.now) (map line_reply answers.old) }
-    ensures wiped { buffer.new ≡ replicate (length buffer.old) 0 }
+    ensures cleared { buffer.new ≡ replicate (length buffer.old) 0 }
     ensures seals2 { opened (λ s. s) result.1 ≡ sealing F.meaning buffer2.old calls2.now }
     ensures replies2 { map line_reply answers2.new ≡ placed (replies_if (opening F.meaning buffer2.old) calls2.now) (map line_reply answers2.old) }
-    ensures wiped2 { buffer2.new ≡ replicate (length buffer2.old) 0 }
+    ensures cleared2 { buffer2.new ≡ replicate (length buffer2.old) 0 }
     ensures promise { HandoverPromise F.meaning }
     ensures messages { MessagesPromise F.meaning }
 {

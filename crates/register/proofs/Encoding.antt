@@ -7,7 +7,7 @@ use Rattle.std.proofs.ByRecursion.{All-append}
 use Rattle.hashes.specs.Word.{Bytes}
 use Rattle.register.specs.Records.{Record, zone, point, rule, Field, field, two_bytes, bytes_of, field_of, field_length, message}
 use Rattle.register.proofs.Firsts.{None_Some, Some_inj}
-use Rattle.register.specs.Fields.{record_in, record_length, is_record, next_field, cut}
+use Rattle.register.specs.Fields.{record_in, is_record_length, is_record, next_field, cut}
 
 -- a record that fits its field: every number takes two bytes, the kind one byte, and the value's length two bytes
 abbrev pub Encodable : Record → Type 0
@@ -81,7 +81,7 @@ pub decides_leb : (a b : ℕ) → Decides (leb a b) (a ≤ b)
 decides_leb a b = (λ e. grind arith, λ h. grind arith)
 
 -- what the table of lengths says
-pub record_lengths : (t n : ℕ) → Decides (record_length t n) ((((t ≡ 1) × (2 ≤ n)) ⊎ ((t ≡ 2) × (n ≡ 5))) ⊎ ((t ≡ 3) × (n ≡ 4)))
+pub record_lengths : (t n : ℕ) → Decides (is_record_length t n) ((((t ≡ 1) × (2 ≤ n)) ⊎ ((t ≡ 2) × (n ≡ 5))) ⊎ ((t ≡ 3) × (n ≡ 4)))
 record_lengths t n =
     Decides-or _ _
     (Decides-or _ _ (Decides-and _ _ (Decides-eqb t 1) (decides_leb 2 n)) (Decides-and _ _ (Decides-eqb t 2) (Decides-eqb n 5)))

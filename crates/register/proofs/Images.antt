@@ -5,10 +5,10 @@ use Rattle.std.proofs.lemmas.Bool.Decides.{Decides-and, Decides-eqb, not_from_De
 use Rattle.hashes.specs.Word.{Bytes}
 use Rattle.register.specs.declared.fault.RecordFault.{RecordFault}
 use Rattle.register.specs.Records.{Record, Field, field, bytes_of, field_of, message}
-use Rattle.register.specs.Fields.{record_length, is_record, record_in, next_field, is_seal}
+use Rattle.register.specs.Fields.{is_record_length, is_record, record_in, next_field, is_seal}
 use Rattle.register.specs.Known.{refusal}
 use Rattle.register.specs.Book.{TakenAfter, Book}
-use Rattle.register.specs.Image.{seal_field, image, BeginsRecord, BeginsSeal, Unframed, Outcome, compares, faulty, Checks, unframed, refuses, takes, trailing, other_code, ends, value_of, seal_outcome, record_outcome, field_outcome, check_from, check, FramingFault, known_length}
+use Rattle.register.specs.Image.{seal_field, image, BeginsRecord, BeginsSeal, Unframed, Outcome, compares, faulty, Checks, unframed, refuses, takes, trailing, other_code, ends, value_of, seal_outcome, record_outcome, field_outcome, check_from, check, FramingFault, is_known_length}
 use Rattle.register.proofs.Bytes.{bytes_left, bytes_right}
 use Rattle.register.proofs.Encoding.{next_field_reads, field_read, record_read, field_is_record, record_of_field}
 use Rattle.register.proofs.Firsts.{None_Some, Some_inj}
@@ -267,10 +267,10 @@ framing (t ∷ h ∷ l ∷ rest) bs = go (leb n (length rest)) refl
     len : leb n (length rest) ≡ true → length (take n rest) ≡ n
     len q = length-take-le n rest (grind arith)
 
-    known : (b d : Bool) → leb n (length rest) ≡ true → is_record f ≡ b → is_seal f ≡ d → known_length t n ≡ b || d
-    known b d q x y = ap₂ ◌||◌ (ap (record_length t) (sym (len q)) ∙ x) (ap (λ k. eqb t 0x53 && eqb k 9) (sym (len q)) ∙ y)
+    known : (b d : Bool) → leb n (length rest) ≡ true → is_record f ≡ b → is_seal f ≡ d → is_known_length t n ≡ b || d
+    known b d q x y = ap₂ ◌||◌ (ap (is_record_length t) (sym (len q)) ∙ x) (ap (λ k. eqb t 0x53 && eqb k 9) (sym (len q)) ∙ y)
 
-    framed : leb n (length rest) ≡ true → known_length t n ≡ true → FramingFault all → ⊥
+    framed : leb n (length rest) ≡ true → is_known_length t n ≡ true → FramingFault all → ⊥
     framed q k (inl x) = omega arith
     framed q k (inr (inl x)) = let y : n ≤ length rest = grind arith in omega arith
     framed q k (inr (inr x)) = true≢false (sym k ∙ x)

@@ -11,7 +11,7 @@ use Rattle.register.specs.Known.{refusal}
 use Rattle.register.specs.Image.{Outcome, compares, faulty, seal_outcome, record_outcome, field_outcome, check_from, check}
 use Rattle.register.specs.Reading.{Place, ReadsNext, first_place, place_at, seal_in, value_in}
 use Rattle.register.specs.View.{View, standing, answer, after}
-use Rattle.register.specs.Walking.{Answers, seal_answer}
+use Rattle.register.specs.Walking.{Answers, seal_field_answer}
 use Rattle.register.proofs.Firsts.{None_Some, Some_inj}
 use Rattle.register.proofs.Images.{decides_seal}
 use Rattle.register.proofs.Steps.{call_refused, call_taken}
@@ -168,17 +168,17 @@ module _ (image : List ℕ) (at : ℕ) (f : Place) (given : Gives image at f) wh
 
     -- a field that is no record's
     pub walk_seal : is_record (field f.tag (value_in image f)) ≡ false →
-        Answers M key pad (check M.code image) (seal_answer (seal_in f.tag (value_in image f)) M.code at (f.place + f.length) (length image)) v
+        Answers M key pad (check M.code image) (seal_field_answer (seal_in f.tag (value_in image f)) M.code at (f.place + f.length) (length image)) v
     unfolding value
     walk_seal q =
-        subst (λ o. Answers M key pad o (seal_answer (seal_in f.tag value) M.code at (f.place + f.length) (length image)) v) (sym (step.2 ∙ rw q)) (go (is_seal (field f.tag value)) refl)
+        subst (λ o. Answers M key pad o (seal_field_answer (seal_in f.tag value) M.code at (f.place + f.length) (length image)) v) (sym (step.2 ∙ rw q)) (go (is_seal (field f.tag value)) refl)
       where
         stop : ℕ
         stop = f.place + f.length
 
         go : (b : Bool) → is_seal (field f.tag value) ≡ b →
             Answers M key pad (cond b (seal_outcome M.code w.before at value (drop (f.place + f.length) image)) (faulty 40 at))
-            (seal_answer (cond b (Some (get_or value 0 0, word (drop 1 value))) None) M.code at (f.place + f.length) (length image)) v
+            (seal_field_answer (cond b (Some (get_or value 0 0, word (drop 1 value))) None) M.code at (f.place + f.length) (length image)) v
         go true h = at_end (drop stop image) refl
           where
             nine : f.length ≡ 9

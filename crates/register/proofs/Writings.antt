@@ -12,7 +12,7 @@ use Rattle.register.specs.Known.{known_of}
 use Rattle.register.specs.Known.{refusal}
 use Rattle.register.specs.Run.{Input, a_record, no_record, unread, step, step_by}
 use Rattle.register.specs.View.{standing}
-use Rattle.register.specs.Writing.{written, put, padded, Holds, output_by}
+use Rattle.register.specs.Writing.{written, put, filled_up, Holds, output_by}
 use Rattle.register.specs.Inputs.{input_output}
 use Rattle.register.proofs.Steps.{message_push}
 
@@ -21,7 +21,7 @@ pub put_fits : (out : List ℕ) (at : ℕ) (xs : List ℕ) → at + length xs �
 put_fits out at xs h = ap (λ b. cond b (written out at xs) out) (le-leb (at + length xs) (length out) h)
 
 -- bytes written after others, over zeros
-pub written_more : (n at : ℕ) (m f : List ℕ) → length m ≡ at → written (padded n m) at f ≡ padded n (m ++ f)
+pub written_more : (n at : ℕ) (m f : List ℕ) → length m ≡ at → written (filled_up n m) at f ≡ filled_up n (m ++ f)
 written_more n at m f e =
     let z : List ℕ = replicate (n - length m) 0 in
     let a : take at (m ++ z) ≡ m = take_at m z at e in
@@ -33,15 +33,15 @@ written_more n at m f e =
     ∙ ap (λ x. m ++ (f ++ x)) d
     ∙ sym (append_assoc m f (replicate (n - length (m ++ f)) 0))
 
-pub length_padded : (n : ℕ) (m : List ℕ) → length m ≤ n → length (padded n m) ≡ n
-length_padded n m h = length-append m (replicate (n - length m) 0) ∙ ap (λ k. length m + k) (length-replicate (n - length m) 0) ∙ omega arith
+pub length_filled_up : (n : ℕ) (m : List ℕ) → length m ≤ n → length (filled_up n m) ≡ n
+length_filled_up n m h = length-append m (replicate (n - length m) 0) ∙ ap (λ k. length m + k) (length-replicate (n - length m) 0) ∙ omega arith
 
 -- bytes put after a message, over zeros
-pub put_more : (n : ℕ) (m f out : List ℕ) → length (m ++ f) ≤ n → out ≡ padded n m → put out (length m) f ≡ padded n (m ++ f)
+pub put_more : (n : ℕ) (m f out : List ℕ) → length (m ++ f) ≤ n → out ≡ filled_up n m → put out (length m) f ≡ filled_up n (m ++ f)
 put_more n m f out h e =
     let l : length (m ++ f) ≡ length m + length f = length-append m f in
-    let size : length (padded n m) ≡ n = length_padded n m (omega arith) in
-    ap (λ o. put o (length m) f) e ∙ put_fits (padded n m) (length m) f (omega (arith, l, size)) ∙ written_more n (length m) m f refl
+    let size : length (filled_up n m) ≡ n = length_filled_up n m (omega arith) in
+    ap (λ o. put o (length m) f) e ∙ put_fits (filled_up n m) (length m) f (omega (arith, l, size)) ∙ written_more n (length m) m f refl
 
 -- the field of a record taken
 put_field : (room : ℕ) (rs : List Record) (r : Record) (out : List ℕ) → Holds room rs out → Holds room (rs ++ (r ∷ [])) (put out (known_of rs).bytes (bytes_of (field_of r)))
@@ -49,7 +49,7 @@ put_field room rs r out holds fits =
     let more = message_push rs r in
     let l = length-append (message rs) (bytes_of (field_of r)) in
     let n = ap length more in
-    put_more room (message rs) (bytes_of (field_of r)) out (omega (arith, l, n, fits)) (holds (omega (arith, l, n, fits))) ∙ ap (padded room) (sym more)
+    put_more room (message rs) (bytes_of (field_of r)) out (omega (arith, l, n, fits)) (holds (omega (arith, l, n, fits))) ∙ ap (filled_up room) (sym more)
 
 -- an output that holds the message holds it after each call
 pub outputs_follow : (M : Meaning) (key : List ℕ) (pad room : ℕ) (before : List Record) (input : Input) (out : List ℕ) →

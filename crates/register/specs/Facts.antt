@@ -9,7 +9,7 @@ use Rattle.register.specs.Book.{ZoneName, InRange, Refused, Accepted, Book, limi
 use Rattle.register.specs.Known.{refusal}
 use Rattle.register.specs.Run.{Input, Reply, Step, Run, step, run}
 use Rattle.register.specs.View.{View, standing, answer, after, sealed, key_of, pad_of, opening}
-use Rattle.register.specs.Writing.{put, padded, Holds, output_after}
+use Rattle.register.specs.Writing.{put, filled_up, Holds, output_after}
 use Rattle.register.specs.Inputs.{input_reply, input_after, input_output}
 use Rattle.register.specs.Image.{Unframed, FramingFault, Outcome, Checks, check}
 use Rattle.register.specs.ImageMessage.{BeforeSeal, message_of}
@@ -39,7 +39,7 @@ pub record RegisterFacts (M : Meaning) : Type 0 where
   -- an output that holds the message and then zeros does so after each call, and after bytes put there
   pub outputs_follow : (key : List ℕ) (pad room : ℕ) (before : List Record) (input : Input) (out : List ℕ) →
       Holds room before out → Holds room (step before input).1 (input_output M (standing M key pad before) input out)
-  pub put_more : (room : ℕ) (m xs out : List ℕ) → length (m ++ xs) ≤ room → out ≡ padded room m → put out (length m) xs ≡ padded room (m ++ xs)
+  pub put_more : (room : ℕ) (m xs out : List ℕ) → length (m ++ xs) ≤ room → out ≡ filled_up room m → put out (length m) xs ≡ filled_up room (m ++ xs)
   -- different records have different messages
   pub message_injective : (rs ss : List Record) → message rs ≡ message ss → rs ≡ ss
   -- an image has one outcome of its check, which `check` gives

@@ -18,12 +18,12 @@ next_field (tag ∷ hi ∷ []) = None
 next_field (tag ∷ hi ∷ lo ∷ rest) = cut tag (hi * 256 + lo) rest
 
 -- the lengths that the tag of a record allows
-abbrev pub record_length : ℕ → ℕ → Bool
-record_length tag n = (tag == 1 && nat_le 2 n) || (tag == 2 && n == 5) || (tag == 3 && n == 4)
+abbrev pub is_record_length : ℕ → ℕ → Bool
+is_record_length tag n = (tag == 1 && nat_le 2 n) || (tag == 2 && n == 5) || (tag == 3 && n == 4)
 
 -- whether a field is a record's
 abbrev pub is_record : Field → Bool
-is_record (field tag value) = record_length tag (length value)
+is_record (field tag value) = is_record_length tag (length value)
 
 -- the record that such a field holds
 abbrev pub record_in : Field → Record

@@ -2,7 +2,7 @@
 use Rattle.std.specs.Prelude.{◌≡◌, ℕ, zero, suc, ◌+◌, ◌<◌, Bool, false, cond, ◌&&◌, ◌||◌, ◌≢◌, ◌⊎◌, List, [], ◌∷◌, ◌++◌, length, drop, Some, None, Option, ◌==◌, slice_index}
 use Rattle.register.specs.declared.fault.RecordFault.{RecordFault}
 use Rattle.register.specs.Records.{Record, Field, field, bytes_of, field_of, message}
-use Rattle.register.specs.Fields.{number_at, record_length, is_record, record_in, next_field, seal_tag, seal_length, is_seal}
+use Rattle.register.specs.Fields.{number_at, is_record_length, is_record, record_in, next_field, seal_tag, seal_length, is_seal}
 use Rattle.register.specs.Faults.{number_of_record_fault}
 use Rattle.register.specs.Book.{Refused, Accepted}
 use Rattle.register.specs.Known.{refusal}
@@ -27,12 +27,13 @@ pub record Unframed (bytes : List ℕ) : Type 0 where
   pub no_record : (r : Record) (rest : List ℕ) → ¬ BeginsRecord bytes r rest
   pub no_seal : (code : ℕ) (seal rest : List ℕ) → ¬ BeginsSeal bytes code seal rest
 
--- the same by its causes: fewer than three bytes; a value past the end; an unknown tag or a wrong length
-abbrev pub known_length : ℕ → ℕ → Bool
-known_length tag n = record_length tag n || (tag == seal_tag && n == seal_length)
+-- the lengths that a tag allows, that of the seal field among them
+abbrev pub is_known_length : ℕ → ℕ → Bool
+is_known_length tag n = is_record_length tag n || (tag == seal_tag && n == seal_length)
 
+-- the same by its causes: fewer than three bytes; a value past the end; an unknown tag or a wrong length
 abbrev pub FramingFault : List ℕ → Type 0
-FramingFault bytes = (length bytes < 3) ⊎ ((length bytes < 3 + number_at bytes 1) ⊎ (known_length (slice_index bytes 0) (number_at bytes 1) ≡ false))
+FramingFault bytes = (length bytes < 3) ⊎ ((length bytes < 3 + number_at bytes 1) ⊎ (is_known_length (slice_index bytes 0) (number_at bytes 1) ≡ false))
 
 -- What a check comes to: records and the seal bytes to compare with their seal, or a fault's number and the offset of the faulty field.
 pub data Outcome : Type 0 where

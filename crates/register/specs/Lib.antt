@@ -1,3 +1,4 @@
+-- What the contracts cite: records, the book, runs, views, images and their check.
 pub mod Records
 pub mod Fields
 pub mod Faults

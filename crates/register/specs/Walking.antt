@@ -20,7 +20,7 @@ pub record Walks (M : Meaning) (v : View M) (image : List ℕ) (r : Result ℕ (
   pub answers : (key : List ℕ) (pad : ℕ) → v ≡ standing M key pad [] → Answers M key pad (check M.code image) r w
 
 -- the answer at a field that is no record's, from `start` to `stop` in an image that ends at `end`
-abbrev pub seal_answer : Option (ℕ × ℕ) → ℕ → ℕ → ℕ → ℕ → Result ℕ (ImageFault × ℕ)
-seal_answer None code start stop end = Err (Framing, start)
-seal_answer (Some found) code start stop end =
+abbrev pub seal_field_answer : Option (ℕ × ℕ) → ℕ → ℕ → ℕ → ℕ → Result ℕ (ImageFault × ℕ)
+seal_field_answer None code start stop end = Err (Framing, start)
+seal_field_answer (Some found) code start stop end =
     cond (stop == end) (cond (found.0 == code) (Ok found.1) (Err (Code, start))) (Err (Framing, stop))

@@ -15,12 +15,12 @@ abbrev pub put : List ℕ → ℕ → List ℕ → List ℕ
 put out at xs = cond (nat_le (at + length xs) (length out)) (written out at xs) out
 
 -- bytes followed by zeros, so many in all
-abbrev pub padded : ℕ → List ℕ → List ℕ
-padded room xs = xs ++ replicate (room - length xs) 0
+abbrev pub filled_up : ℕ → List ℕ → List ℕ
+filled_up room xs = xs ++ replicate (room - length xs) 0
 
 -- an output of so many bytes holds the message of some records and then zeros, as soon as the message fits
 abbrev pub Holds : ℕ → List Record → List ℕ → Type 0
-Holds room rs out = length (message rs) ≤ room → out ≡ padded room (message rs)
+Holds room rs out = length (message rs) ≤ room → out ≡ filled_up room (message rs)
 
 -- what a call with a record leaves in an output: the field after the message, if the record is taken
 abbrev pub output_by : Known → Record → List ℕ → Option RecordFault → List ℕ

@@ -6,6 +6,9 @@ use crate::fault::RecordFault;
 use crate::record::SiteRecord;
 use crate::sound::SoundRecord;
 
+// How long a message may be.
+const LONGEST_MESSAGE: usize = 60_000;
+
 // No `impl Model`: its value would be `Known`, which holds functions. A value needs a code, and no function has one.
 #[derive(Drop)]
 pub(crate) struct Book {
@@ -75,7 +78,7 @@ impl Book {
         if self.misses(&sound) {
             return Err(RecordFault::Missing);
         }
-        if self.len + sound.field_length() > 60_000 {
+        if self.len + sound.field_length() > LONGEST_MESSAGE {
             return Err(RecordFault::Full);
         }
         Ok(sound)

@@ -3,7 +3,7 @@ ghost use Rattle.register.specs.Check.{Passes, checked, says, verdict_of};
 ghost use Rattle.register.specs.Reading.{place_of, value_in};
 ghost use Rattle.register.specs.Reading.{seal_in as seal_of};
 ghost use Rattle.register.specs.Values.{view};
-ghost use Rattle.register.specs.Walking.{Walks, seal_answer};
+ghost use Rattle.register.specs.Walking.{Walks, seal_field_answer};
 ghost use Rattle.std.specs.Prelude.{◌≡◌, ◌+◌, ◌-◌, ◌≤◌, ◌↔◌, length, replicate};
 
 use crate::fault::{ImageFault, ImageRefusal};
@@ -16,7 +16,7 @@ use hashes::family::Family;
 // field: that of another family is refused by 41.
 fn at_seal(field: Field, image: &[u8], code: u8) -> Result<u64, ImageRefusal>
     requires { field.place + field.length ≤ length image.now }
-    ensures { result ≡ seal_answer (seal_of field.tag (value_in image.now (place_of field))) code (field.place - 3) (field.place + field.length) (length image.now) }
+    ensures { result ≡ seal_field_answer (seal_of field.tag (value_in image.now (place_of field))) code (field.place - 3) (field.place + field.length) (length image.now) }
 {
     let found = seal_in(field.tag, field.value(image));
     let (own, seal) = found.ok_or((ImageFault::Framing, field.start()))?;
@@ -48,11 +48,11 @@ fn read_records<F: Family>(register: &mut Register<F>, image: &[u8]) -> Result<u
     Err((ImageFault::Framing, at))
 }
 
-// Whether an image is sealed by a key buffer, which it leaves zero, as a clause says here and wherever a slice of the caller's is zeroed; or a fault and the offset of the faulty field.
+// Whether an image is sealed by a key buffer, or a fault and the offset of the faulty field. The buffer ends as zeros.
 pub fn check<F: Family>(buffer: &mut [u8], image: &[u8]) -> Result<bool, ImageRefusal>
     ensures answers { verdict_of result ≡ checked F.meaning buffer.old image.now }
     ensures passes { (verdict_of result ≡ says 1) ↔ Passes F.meaning buffer.old image.now }
-    ensures wiped { buffer.new ≡ replicate (length buffer.old) 0 }
+    ensures cleared { buffer.new ≡ replicate (length buffer.old) 0 }
 {
     let mut register = Register::<F>::open(buffer).map_err(|fault| (ImageFault::Key(fault), 0))?;
     let seal = read_records(&mut register, image)?;

@@ -28,7 +28,7 @@ impl RecordFault {
     }
 }
 
-// Why the check of an image comes to no answer, with the offset of the faulty field. Plain, as the pair of line and column is.
+// The fault of an image, and the offset of the faulty field: a pair, as line and column are.
 pub type ImageRefusal = (ImageFault, usize);
 
 // Why the check of an image comes to no answer.

@@ -15,7 +15,8 @@ pub const SEAL_VALUE: u8 = 9;
 
 pub const SEAL_FIELD: usize = 12;
 
-// A field of an image: its tag, and where its value stands. By place and length, by a rule of the project on the forms that fields take.
+// A field of an image: its tag, and where its value stands. By place and length and not as a slice, since a refusal answers the field's offset, and so
+// that fields are taken from any image in one way.
 #[derive(Clone, Copy, Debug, PartialEq, Eq)]
 pub(crate) struct Field {
     // A byte, since an image may have any here.

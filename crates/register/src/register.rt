@@ -37,6 +37,7 @@ impl Drop for KeyGuard<'_> {
         ensures { self.exit.0.now ≡ replicate (length self.entry.bytes.now) 0 }
     {
         self.bytes.fill(0);
+        // `drop` has the guard by value, and ends it by taking it apart.
         let KeyGuard { bytes: _ } = self;
     }
 }
@@ -63,7 +64,7 @@ impl<F: Family> Register<F> {
     // Opens a register by a key buffer, the key and then eight pad bytes, and leaves only zeros in it.
     pub fn open(buffer: &mut [u8]) -> Result<Register<F>, KeyFault>
         ensures opens { opened (view F.meaning F.state) result ≡ opening F.meaning buffer.old }
-        ensures wiped { buffer.new ≡ replicate (length buffer.old) 0 }
+        ensures cleared { buffer.new ≡ replicate (length buffer.old) 0 }
     {
         let guard = KeyGuard { bytes: buffer };
         from_key(&*guard.bytes)

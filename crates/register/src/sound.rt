@@ -9,6 +9,16 @@ use crate::fault::RecordFault;
 use crate::record::SiteRecord;
 use std::marker::Model;
 
+// Zones, points and kinds are numbered from 1 up to these.
+const ZONES: u32 = 250;
+
+const POINTS: u32 = 1000;
+
+const KINDS: u32 = 4;
+
+// How many bytes a name may have.
+const LONGEST_NAME: usize = 40;
+
 // A record whose numbers are in range, with a name that a panel can show.
 // Neither `Copy` nor `PartialEq`: they need the fields back from the value, and a list of bytes gives no slice back.
 #[derive(Drop, Debug)]
@@ -41,11 +51,11 @@ fn out_of_range(record: SiteRecord) -> bool
     ensures { result ≡ range_fault (record_of «record».entry) }
 {
     match record {
-        SiteRecord::Zone { number, .. } => !in_range(number, 250),
+        SiteRecord::Zone { number, .. } => !in_range(number, ZONES),
         SiteRecord::Point { number, zone, kind } => {
-            !(in_range(number, 1000) && in_range(zone, 250) && in_range(u32::from(kind), 4))
+            !(in_range(number, POINTS) && in_range(zone, ZONES) && in_range(u32::from(kind), KINDS))
         }
-        SiteRecord::Rule { zone, point } => !(in_range(zone, 250) && in_range(point, 1000)),
+        SiteRecord::Rule { zone, point } => !(in_range(zone, ZONES) && in_range(point, POINTS)),
     }
 }
 
@@ -60,7 +70,7 @@ fn name_byte(b: u8) -> bool
 fn zone_name(name: &[u8]) -> bool
     ensures { result ≡ zone_name name.now }
 {
-    (1..=40).contains(&name.len()) && name.iter().all(|b| name_byte(*b))
+    (1..=LONGEST_NAME).contains(&name.len()) && name.iter().all(|b| name_byte(*b))
 }
 
 // Whether a record has a name that a panel cannot show.

@@ -116,6 +116,7 @@ fn show_sealed(rt: &impl Print, tally: &mut Tally, known: &Sealed) -> io::Result
     }
 }
 
+// Its bytes are made in `run`.
 const TOO_LONG: Refused = Refused {
     what: "65537 bytes",
     bytes: b"",

@@ -38,5 +38,5 @@ returns g c =
       replies =
           end.1 ∙ ap (λ cs. placed (replies_of cs) (map line_reply c.args.answers.now)) all
           ∙ ap (λ o. placed (replies_if o calls) (map line_reply c.args.answers.now)) opens;
-      wiped = c.open.ensures.wiped;
+      cleared = c.open.ensures.cleared;
     }
