@@ -55,6 +55,8 @@ impl<'a> From<&SoundRecord<'a>> for EncodedField<'a> {
 
 // Hands the field of a record to a family.
 // It matches on the field as `put_field` does: two parts as slices, one of them empty for a point and for a rule, would be no plainer.
+// Inlined, as `put_field` is.
+#[inline(always)]
 pub(crate) fn send<F: Family>(family: &mut F, sound: &SoundRecord)
     ensures { F.state family.new ≡ absorbed F.meaning (F.state family.old) (bytes_of (field_of sound.now)) }
 {
