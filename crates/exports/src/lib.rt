@@ -1,6 +1,6 @@
 // The libraries behind functions on numbers and byte slices that other languages can call. The benchmark is built on them.
 // Codes and flags are numbers here, and a part of no bytes is a message at once: C may hand over any number, and an enum or a `bool` may hold only
-// its own. Answers are one number each, 0 for no hash, since C has no `Result`. Buffers are handed over singly, as slices, and each function
+// its own. Answers are one number each, 0 for no hash and for no refusal, since C has no `Result`; the private functions pack them already. Buffers are handed over singly, as slices, and each function
 // that zeroes one says so itself.
 #![tactic(auto)]
 
@@ -144,6 +144,7 @@ fn no_family(buffer: &mut [u8], out: &mut [u8]) -> Result<usize, Refusal>
 {
     buffer.fill(0);
     out.fill(0);
+    // No line is at fault.
     Err((InputFault::Code.number(), (0, 0)))
 }
 

@@ -40,6 +40,7 @@ impl Carries {
     {
         let mut row = [0; 16];
         let mut power = a;
+        // As in `multiples`, by another step: to hand that over would take a closure that both have to describe.
         for k in 0..4u32 {
             extend_sums(&mut row, 1 << k, power);
             power = self.half_byte_up(power);

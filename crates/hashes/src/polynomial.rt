@@ -19,7 +19,7 @@ pub(crate) fn multiples<const N: usize>(a: u64, w: u64) -> [u64; N]
 {
     let mut result = [0; N];
     let mut power = a;
-    // By place, since the library has no iterator over doublings.
+    // By exponent: `successors` would hand out the same places and powers, and the words would still be extended at each.
     for k in 0..N.ilog2() {
         extend_sums(&mut result, 1 << k, power);
         power = double(power, w);

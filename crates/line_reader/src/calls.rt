@@ -29,7 +29,8 @@ pub enum Call<'a> {
     Rule { zone: u32, point: u32 },
 }
 
-// As in the register, each function says what it answers, leaves and keeps: that is of a call, before and after it.
+// As in the register, each function says what it answers, leaves and keeps: that is of a call, before and after it. Register and output stay two
+// parameters, since each clause speaks of one of them.
 
 // Declares a zone by a name as it is written. A name that has no room here is too long for the book.
 fn named_zone<F: Family>(

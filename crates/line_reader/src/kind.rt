@@ -31,7 +31,8 @@ impl Kind {
         }
     }
 
-    // The only kind whose word may stand at the front of `text`.
+    // The only kind whose word may stand at the front of `text`; smoke also where none may: its word is then refused at the byte that does not fit, and
+    // so at the right column.
     pub(crate) fn likely(text: &[u8]) -> Kind
         ensures { result ≡ likely text.now }
     {

@@ -21,7 +21,7 @@ use register::register::{PAD_LEN, Register};
 // The longest input.
 pub const LIMIT: usize = 65_536;
 
-// Seals a text that stands behind its key buffer: the length of its image, and the seal.
+// Seals a text that stands behind its key buffer: the length of its image, and the seal. A plain pair here and below, as it is answered to callers.
 fn seal_text<F: Family>(rest: &mut [u8]) -> Result<(usize, u64), MakeFault>
     ensures { text_answer result ≡ seal_by_scheme (scheme_of F.meaning) rest.old }
 {

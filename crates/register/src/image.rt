@@ -49,7 +49,7 @@ fn number(hi: u8, lo: u8) -> u32
     u32::from(u16::from_be_bytes([hi, lo]))
 }
 
-// The record that a field holds, if its tag and length are a record's.
+// The record that a field holds, if its tag and length are a record's. The tag is a byte, as in a field.
 pub(crate) fn record_in(tag: u8, value: &[u8]) -> Option<SiteRecord>
     ensures { ReadsRecord tag value.now result }
 {

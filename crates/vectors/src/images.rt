@@ -144,6 +144,7 @@ fn show<F: Family, const N: usize>(
         offset,
     ));
     let verdict = tally.verdict(found == known);
+    // One line for both: a verdict is printed at 0.
     let (number, offset) = found.map_or_else(|fault| fault, |passes| (u8::from(passes), 0));
     println!(rt; "image, {what}: {number} at {offset} {verdict}")
 }

@@ -70,7 +70,7 @@ fn refused(rt: &impl Print, tally: &mut Tally, expected: &RefusedLine) -> io::Re
     }
 }
 
-// The number and the column of the refusal, if the line is refused.
+// The number and the column of the refusal, if the line is refused. The number, not the fault, so that it is compared.
 fn refusal(line: &[u8]) -> Option<(u8, usize)> {
     let (fault, column) = read_line(line).err()?;
     Some((fault.number(), column))
