@@ -41,7 +41,7 @@ pub record Key (M : Meaning) (key : List ℕ) : Type 0 where
 abbrev pub AtMost : Meaning → ℕ → (List ℕ → Type 0) → Type 0
 AtMost M n P = (keys : List (List ℕ)) → Distinct keys → AllByRecursion (λ key. Key M key × P key) keys → length keys ≤ n
 
--- The law. Two different messages, the longer of L bytes, and a word d: at most `bound L` keys make their hashes differ by d, bit by bit.
+-- The law. Any one word is the difference of the hashes of two different messages under `bound L` keys at most, L being the length of the longer message.
 abbrev pub Bounded : Meaning → Type 0
 Bounded M =
     (m n : List ℕ) (d : ℕ) → Bytes m → Bytes n → (m ≢ n)

@@ -42,7 +42,7 @@ unfoldable pub chosen : ℕ → ℕ → ℕ → ℕ → List ℕ → ℕ
 chosen n p s j [] = 0
 chosen n p s j (d ∷ ds) = bit_xor (d * state n p s j) (chosen n p s (suc j) ds)
 
--- the bitwise sum of S_j over every j with M_j = 1
+-- the states at the places where the message has a one, added up
 unfoldable pub toeplitz : ℕ → ℕ → ℕ → List ℕ → ℕ
 toeplitz n p s m = chosen n p s 0 (message_bits m)
 

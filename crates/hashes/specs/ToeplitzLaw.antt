@@ -81,8 +81,7 @@ few_bad n m d pos d_pos d_le ps dist bad =
     each : (p : ℕ) → p ∈ ps → Irreducible (2 ^ n + p) × (degree (2 ^ n + p) ≡ n) × Divides (2 ^ n + p) d
     each p m = let b = ∈_all (Bad n d) p ps bad m in (b.irreducible, word_degree n p b.word, b.divides)
 
--- Two different messages of at most L bytes, and a word d: a list without repeats of keys under which their hashes differ by d has at
--- most 2^n (floor(8 L / n) + 1) entries.
+-- Messages that are not equal, and have L bytes at most: distinct keys whose hashes of the two have one difference number 2^n (floor(8 L / n) + 1) at most.
 pub toeplitz_law : (n : ℕ) → 1 ≤ n → (a b : List ℕ) (L w : ℕ) (ks : List (ℕ × ℕ)) → Bytes a → Bytes b → a ≢ b → length a ≤ L → length b ≤ L
     → Distinct ks → AllByRecursion (λ k. PairKey n k) ks → AllByRecursion (λ k. Differ n k.0 k.1 a b w) ks → length ks ≤ 2 ^ n * (8 * L / n + 1)
 toeplitz_law n pos a b L w ks a_bytes b_bytes ne a_le b_le dist keys same =

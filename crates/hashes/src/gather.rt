@@ -1,4 +1,4 @@
-// A family made of any family: it holds back up to 64 bytes and hands them down together.
+// Small parts cost a family more than large ones. A gather around it keeps at most 64 bytes to itself and passes them on in one part.
 ghost use Rattle.std.specs.Prelude.{◌≡◌, []};
 ghost use Rattle.hashes.specs.Family.{absorbed};
 

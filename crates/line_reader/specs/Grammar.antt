@@ -65,7 +65,7 @@ pub data Spells : List ℕ → Sentence → Type 0 where
 abbrev pub Begins : {A : Type 0} → (List ℕ → A → Type 0) → List ℕ → Type 0
 Begins {A} L w = (v : List ℕ) × (a : A) × L (w ++ v) a
 
--- c is the length of the longest beginning of the line that also begins a line of the grammar
+-- as far as c the line could still become one of the grammar, and no further
 pub record Column (line : List ℕ) (c : ℕ) : Type 0 where
   pub within : c ≤ length line
   pub begins : Begins Spells (take c line)

@@ -102,9 +102,9 @@ fn build<F: Family>(text: &[u8], buffer: &mut [u8], out: &mut [u8]) -> Result<us
     Ok(at + SEAL_FIELD)
 }
 
-// Makes the image of a text by a key buffer, which it leaves zero. The answer is the length of the image, and the output holds the image
-// followed by zeros. A refusal answers its number with the line, from 1, and the column, and leaves only zeros in the output. Buffer and output stay
-// apart, as slices of the caller's.
+// Makes the image of a text by a key buffer, which it leaves zero. Where that can be done it answers how long the image is, and the output has the image in
+// front and zeros behind it. Where not, it answers a number, with a line from 1 and a column, and the output is all zeros. Buffer and output stay apart,
+// as slices of the caller's.
 pub fn make<F: Family>(text: &[u8], buffer: &mut [u8], out: &mut [u8]) -> Result<usize, Refusal>
     ensures makes { (result, out.new) ≡ made F.meaning buffer.old text.now (length out.old) }
     ensures cleared { buffer.new ≡ replicate (length buffer.old) 0 }

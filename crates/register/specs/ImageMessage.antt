@@ -1,4 +1,4 @@
--- An image's message: all before its first seal field, or the whole image if it has none.
+-- The message in an image: what stands in front of the first seal field. Without such a field it is everything.
 -- Fields are walked by their framing, whatever their tag: tag, two length bytes, value.
 use Rattle.std.specs.Prelude.{◌≡◌, ℕ, zero, suc, cond, List, [], ◌∷◌, ◌++◌, length, Some, None, Option}
 use Rattle.std.specs.List.{AllByRecursion}

@@ -129,7 +129,7 @@ impl<F: Family> Register<F> {
         self.apply(rule_record(zone, point))
     }
 
-    // Ends the register: the hash of the message combined with the pad, bit by bit.
+    // Ends the register. The seal is the message's hash with the pad added, as a sum of bits.
     pub fn close(self) -> u64
         ensures { result ≡ seal F.meaning (view F.meaning F.state self) }
     {
