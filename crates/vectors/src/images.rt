@@ -5,6 +5,7 @@ use hashes::evaluation::Evaluation;
 use hashes::family::Family;
 use hashes::gather::Gather;
 use hashes::toeplitz::Toeplitz;
+use line_reader::make::make;
 use register::check::check;
 use std::io;
 use std::io::Print;
@@ -16,6 +17,9 @@ const IMAGE: [u8; 33] = [
     0x04, 0x00, 0x07, 0x00, 0x03, 0x53, 0x00, 0x09, 0x01, 0x30, 0xB8, 0xAD, 0x8E, 0x20, 0x51, 0x56,
     0x8B,
 ];
+
+// A text with these records.
+const TEXT: &[u8] = b"zone 7 \"A\"\npoint 3 7 heat\nrule 7 3\n";
 
 // What the check of an image answers: its verdict, or the number and the offset of its fault. The number is compared, not the fault.
 type Answer = Result<bool, (u8, usize)>;
@@ -247,10 +251,19 @@ fn families(rt: &impl Print, tally: &mut Tally) -> io::Result<()> {
     )
 }
 
+// Makes the image of the text.
+fn made(rt: &impl Print, tally: &mut Tally) -> io::Result<()> {
+    let mut image = [0; 33];
+    let length = make::<Gather<Division>>(TEXT, &mut buffers::division(), &mut image);
+    let same = length == Ok(33) && image == IMAGE;
+    tally.line(rt, "image, made of a text", same)
+}
+
 pub fn run(rt: &impl Print, tally: &mut Tally) -> io::Result<()> {
     for damage in &DAMAGES {
         damaged(rt, tally, damage)?;
     }
     cut(rt, tally)?;
-    families(rt, tally)
+    families(rt, tally)?;
+    made(rt, tally)
 }
