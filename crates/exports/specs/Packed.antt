@@ -2,11 +2,11 @@
 use Rattle.std.specs.Prelude.{ℕ, ◌+◌, ◌-◌, ◌*◌, ◌^◌, min, cond, List, Ok, Err, Result, ◌==◌}
 use Rattle.hashes.specs.Division.{division_family}
 use Rattle.hashes.specs.Evaluation.{evaluation_family}
-use Rattle.hashes.specs.KeyFault.{Answer, taken, refused}
+use Rattle.hashes.specs.KeyFault.{Answer}
 use Rattle.hashes.specs.Toeplitz.{toeplitz_family}
 use Rattle.register.specs.Check.{Verdict, says, faulted}
 use Rattle.register.specs.Writing.{put}
-use Rattle.line_reader.specs.Making.{Making, eight, made, unmade}
+use Rattle.line_reader.specs.Making.{Making, bytes_of_word, made, unmade}
 use Rattle.line_reader.specs.SiteInput.{SiteSeal}
 
 -- the choice by a family's code
@@ -15,25 +15,25 @@ by_code code division toeplitz evaluation other = cond (code == 1) division (con
 
 -- 0 where something is taken, or the number of the refusal
 abbrev pub refusal_number : {A : Type 0} → Answer A → ℕ
-refusal_number (taken a) = 0
-refusal_number (refused n) = n
+refusal_number (Ok a) = 0
+refusal_number (Err n) = n
 
 -- a hash, or 0 where there is none
 abbrev pub hash_or_zero : Answer ℕ → ℕ
-hash_or_zero (taken h) = h
-hash_or_zero (refused n) = 0
+hash_or_zero (Ok h) = h
+hash_or_zero (Err n) = 0
 
 -- a refusal: the top bit, the number, and 48 bits for the place
 abbrev pub packed : ℕ → ℕ → ℕ
 packed number place = 2 ^ 63 + number * 2 ^ 48 + place
 
--- a number cut to so many bits
-abbrev pub cut : ℕ → ℕ → ℕ
-cut bits n = min n (2 ^ bits - 1)
+-- a number, or the greatest of so many bits where it is greater
+abbrev pub capped : ℕ → ℕ → ℕ
+capped bits n = min n (2 ^ bits - 1)
 
 -- a line and a column, 24 bits each
 abbrev pub line_and_column : ℕ × ℕ → ℕ
-line_and_column place = cut 24 place.0 * 2 ^ 24 + cut 24 place.1
+line_and_column place = capped 24 place.0 * 2 ^ 24 + capped 24 place.1
 
 -- the length of an image, or a refusal with line and column
 abbrev pub packed_length : Result ℕ (ℕ × (ℕ × ℕ)) → ℕ
@@ -43,7 +43,7 @@ packed_length (Err e) = packed e.0 (line_and_column e.1)
 -- a verdict, or a refusal with its offset
 abbrev pub packed_verdict : Verdict → ℕ
 packed_verdict (says n) = n
-packed_verdict (faulted number offset) = packed number (cut 48 offset)
+packed_verdict (faulted number offset) = packed number (capped 48 offset)
 
 -- making by a code without a family
 abbrev pub no_image : ℕ → Making
@@ -61,5 +61,5 @@ packed_seal (Err e) = packed_length (Err e)
 
 -- the place of the seal after it
 abbrev pub seal_after : SiteSeal → List ℕ → List ℕ
-seal_after (Ok s) place = put place 0 (eight s.1)
+seal_after (Ok s) place = put place 0 (bytes_of_word s.1)
 seal_after (Err e) place = place

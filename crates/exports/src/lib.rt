@@ -9,7 +9,7 @@ ghost use Rattle.exports.specs.Packed.{by_code, hash_or_zero, line_and_column, m
 ghost use Rattle.hashes.specs.Division.{division_family};
 ghost use Rattle.hashes.specs.Evaluation.{evaluation_family};
 ghost use Rattle.hashes.specs.Irreducible.{irreducible_by_trial};
-ghost use Rattle.hashes.specs.KeyFault.{hashing, opened, opening};
+ghost use Rattle.hashes.specs.KeyFault.{family_opening, hashing, opened};
 ghost use Rattle.hashes.specs.Toeplitz.{toeplitz_family};
 ghost use Rattle.line_reader.specs.SiteInput.{site_seal};
 ghost use Rattle.register.specs.Check.{checked, faulted};
@@ -37,14 +37,14 @@ pub extern "C" fn waq_irreducible(p: u64) -> u8
 }
 
 fn open_number<F: Family>(key: &[u8]) -> u8
-    ensures { result ≡ refusal_number (opening F.meaning key.now) }
+    ensures { result ≡ refusal_number (family_opening F.meaning key.now) }
 {
     F::open(key).map_or_else(|fault| fault.number(), |_| 0)
 }
 
 // The same straight or through the gather. The choice stands here and below, since each arm names a function at a type.
 fn open_either<F: Family>(gathered: bool, key: &[u8]) -> u8
-    ensures { result ≡ refusal_number (opening F.meaning key.now) }
+    ensures { result ≡ refusal_number (family_opening F.meaning key.now) }
 {
     if gathered {
         open_number::<Gather<F>>(key)
@@ -56,7 +56,7 @@ fn open_either<F: Family>(gathered: bool, key: &[u8]) -> u8
 // 0 for a key of the family with this code, else the number by which it is refused; 4 where there is no such family.
 #[unsafe(no_mangle)]
 pub extern "C" fn waq_open(code: u8, gathered: u8, key: &[u8]) -> u8
-    ensures { result ≡ by_code code (refusal_number (opening division_family key.now)) (refusal_number (opening toeplitz_family key.now)) (refusal_number (opening evaluation_family key.now)) 4 }
+    ensures { result ≡ by_code code (refusal_number (family_opening division_family key.now)) (refusal_number (family_opening toeplitz_family key.now)) (refusal_number (family_opening evaluation_family key.now)) 4 }
 {
     // Each arm here and below names a function at its family. One switch for all would need a trait
     // with a struct and an `impl` for each of the functions.

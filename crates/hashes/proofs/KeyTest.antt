@@ -19,9 +19,9 @@ after_whole p half whole h e f = f ∙ ap (frobenius (2 ^ 64 + p) 32) (after_hal
 -- ---- the answers
 
 -- with a linear factor
-pub refused : (p : ℕ) (b : Bool) → p < 2 ^ 64 → b ≡ (remainder (2 ^ 64 + p) 2 == 0 || remainder (2 ^ 64 + p) 3 == 0) → b ≡ true
+pub linear_refused : (p : ℕ) (b : Bool) → p < 2 ^ 64 → b ≡ (remainder (2 ^ 64 + p) 2 == 0 || remainder (2 ^ 64 + p) 3 == 0) → b ≡ true
     → Decides (not b) (Irreducible (2 ^ 64 + p))
-refused p b h d e = rw e (λ x. absurd (no x), λ irr. absurd (linear_reducible (2 ^ 64 + p) (omega (arith, n)) (sym d ∙ e) irr))
+linear_refused p b h d e = rw e (λ x. absurd (no x), λ irr. absurd (linear_reducible (2 ^ 64 + p) (omega (arith, n)) (sym d ∙ e) irr))
   where
     no : ◌≡◌ {A = Bool} false true → ⊥
     no x = let z : ◌≡◌ {A = ℕ} 0 1 = cc in omega arith

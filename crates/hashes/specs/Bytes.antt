@@ -10,9 +10,9 @@ use Rattle.std.proofs.lemmas.List.{drop_all}
 use Rattle.std.specs.Int.Digits.{number_from_digits_after}
 
 -- a list of eight, by its elements
-pub eight : (xs : List ℕ) → length xs ≡ 8
+pub eight_entries : (xs : List ℕ) → length xs ≡ 8
     → xs ≡ slice_index xs 0 ∷ (slice_index xs 1 ∷ (slice_index xs 2 ∷ (slice_index xs 3 ∷ (slice_index xs 4 ∷ (slice_index xs 5 ∷ (slice_index xs 6 ∷ (slice_index xs 7 ∷ [])))))))
-eight xs n =
+eight_entries xs n =
     at 0 (omega arith) ∙ more 0 (at 1 (omega arith) ∙ more 1 (at 2 (omega arith) ∙ more 2 (at 3 (omega arith) ∙ more 3 (at 4 (omega arith)
     ∙ more 4 (at 5 (omega arith) ∙ more 5 (at 6 (omega arith) ∙ more 6 (at 7 (omega arith) ∙ more 7 (drop_all 8 xs (omega arith)))))))))
   where
@@ -27,7 +27,7 @@ pub word8 :
     (xs : List ℕ) → length xs ≡ 8
     → slice_index xs 0 * 72057594037927936 + slice_index xs 1 * 281474976710656 + slice_index xs 2 * 1099511627776 + slice_index xs 3 * 4294967296 + slice_index xs 4 * 16777216 + slice_index xs 5 * 65536 + slice_index xs 6 * 256 + slice_index xs 7
     ≡ word xs
-word8 xs n = let w = ap word (eight xs n) in omega arith
+word8 xs n = let w = ap word (eight_entries xs n) in omega arith
 
 -- bytes after a number
 pub after_word : (n : ℕ) (bs : List ℕ) → number_from_digits_after 256 n bs ≡ n * 256 ^ length bs + word bs

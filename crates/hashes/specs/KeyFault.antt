@@ -20,28 +20,27 @@ abbrev pub reducible_refusal : ℕ → Option ℕ
 reducible_refusal p = cond (irreducible_by_trial (2 ^ 64 + p)) None (Some 3)
 
 -- an answer: what was asked for, or the number of a refusal
-pub data Answer (A : Type 0) : Type 0 where
-  taken : A → Answer A
-  refused : ℕ → Answer A
+abbrev pub Answer : Type 0 → Type 0
+Answer A = Result A ℕ
 
 -- an answer of the code, its value read by `read`
 abbrev pub opened : {F S : Type 0} → (F → S) → Result F KeyFault → Answer S
-opened read (Ok f) = taken (read f)
-opened read (Err e) = refused (number_of_key_fault e)
+opened read (Ok f) = Ok (read f)
+opened read (Err e) = Err (number_of_key_fault e)
 
 abbrev pub judged : {S : Type 0} → S → Option ℕ → Answer S
-judged s None = taken s
-judged s (Some n) = refused n
+judged s None = Ok s
+judged s (Some n) = Err n
 
--- what opening a string answers: a string of another length is refused by 1
-abbrev pub opening : (M : Meaning) → List ℕ → Answer M.State
-opening M key = cond (length key == M.key_len) (judged (M.first key) (M.refusal key)) (refused 1)
+-- what opening a family by a string answers: a string of another length is refused by 1
+abbrev pub family_opening : (M : Meaning) → List ℕ → Answer M.State
+family_opening M key = cond (length key == M.key_len) (judged (M.first key) (M.refusal key)) (Err 1)
 
 -- an answer with its value turned into another
 abbrev pub answered : {A B : Type 0} → (A → B) → Answer A → Answer B
-answered f (taken a) = taken (f a)
-answered f (refused n) = refused n
+answered f (Ok a) = Ok (f a)
+answered f (Err n) = Err n
 
 -- what hashing a message under a string answers: the hash, or the refusal
 abbrev pub hashing : (M : Meaning) → List ℕ → List ℕ → Answer ℕ
-hashing M key m = answered (λ s. M.close (absorbed M s m)) (opening M key)
+hashing M key m = answered (λ s. M.close (absorbed M s m)) (family_opening M key)

@@ -1,6 +1,6 @@
 // The interface of a family of keyed hashes. Its ghost members say what the family computes; its law says how rarely messages agree.
 ghost use Rattle.hashes.specs.Family.{Lawful, Meaning, absorbed};
-ghost use Rattle.hashes.specs.KeyFault.{opened, opening};
+ghost use Rattle.hashes.specs.KeyFault.{family_opening, opened};
 ghost use Rattle.std.specs.Prelude.{◌≡◌};
 
 use crate::key_fault::KeyFault;
@@ -24,7 +24,7 @@ pub trait Family: Sized + Drop {
 
     // Every key gets its first state, every other string its refusal.
     fn open(key: &[u8]) -> Result<Self, KeyFault>
-        ensures { opened state result ≡ opening meaning key.now };
+        ensures { opened state result ≡ family_opening meaning key.now };
 
     // Takes in a part of the message.
     fn absorb(&mut self, part: &[u8])

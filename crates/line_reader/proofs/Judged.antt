@@ -90,8 +90,8 @@ faulty_one line f g c d p q =
 pub readings_exact : ReadingsExact
 readings_exact =
     record {
-      taken = λ line s. (λ e. subst (Judged line) e (judged line), λ h. reads_whole h);
-      refused = λ line f c. (λ e. subst (Judged line) e (judged line), λ h. refuse line f c h (reading line) refl);
+      sentence = λ line s. (λ e. subst (Judged line) e (judged line), λ h. reads_whole h);
+      fault = λ line f c. (λ e. subst (Judged line) e (judged line), λ h. refuse line f c h (reading line) refl);
       one_sentence = λ line s t h k. let p = reads_whole h in let q = reads_whole k in cc;
       one_fault = faulty_one;
       one_of_both = λ line. either line (reading line) (judged line);

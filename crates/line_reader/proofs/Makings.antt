@@ -2,29 +2,28 @@
 use Rattle.std.proofs.Common.{◌≡◌, ℕ, ◌+◌, ◌-◌, ◌<◌, ◌≤◌, Bool, true, false, cond, leb, List, [], ◌++◌, length, replicate, Ok, Err, Result, sym, ap, ◌∙◌, ap₂, append-nil, arith, length-append}
 use Rattle.std.proofs.lemmas.Bool.{le-leb, lt-leb}
 use Rattle.hashes.specs.Family.{Meaning}
-use Rattle.hashes.specs.KeyFault as key
 use Rattle.register.specs.Image.{seal_field}
 use Rattle.register.specs.Records.{Record, bytes_of, message}
 use Rattle.register.specs.View.{View, key_of, opening, pad_of, sealed}
 use Rattle.register.specs.Writing.{Holds, filled_up, put}
 use Rattle.register.proofs.Writings.{put_more}
-use Rattle.line_reader.specs.Making.{Making, all_taken, Sent, eight, made, made_by, making, sealed_image, sent, unmade}
+use Rattle.line_reader.specs.Making.{Making, all_taken, Sent, bytes_of_word, made, made_by, making, sealed_image, sent, unmade}
 use Rattle.line_reader.specs.Texts.{lines_of}
 
 -- of a buffer that opens
-pub opened_made : (M : Meaning) (buffer text : List ℕ) (room : ℕ) (v : View M) (s : Sent) → key.taken v ≡ opening M buffer → sent [] (lines_of text) 1 ≡ s
+pub opened_made : (M : Meaning) (buffer text : List ℕ) (room : ℕ) (v : View M) (s : Sent) → Ok v ≡ opening M buffer → sent [] (lines_of text) 1 ≡ s
     → made M buffer text room ≡ making M (key_of M buffer) (pad_of M buffer) room s
 opened_made M buffer text room v s o e =
     ap (made_by M buffer text room) (sym o) ∙ ap (making M (key_of M buffer) (pad_of M buffer) room) e
 
 -- an image's length, and an output
-abbrev answered : ℕ → List ℕ → Making
-answered n out = (Ok n, out)
+abbrev done : ℕ → List ℕ → Making
+done n out = (Ok n, out)
 
 module _ (M : Meaning) (k : List ℕ) (pad room : ℕ) (rs : List Record) where
   -- the seal field has twelve bytes
   image_length : length (sealed_image M k pad rs) ≡ length (message rs) + 12
-  image_length = length-append (message rs) (bytes_of (seal_field M.code (eight (sealed M k pad rs))))
+  image_length = length-append (message rs) (bytes_of (seal_field M.code (bytes_of_word (sealed M k pad rs))))
 
   -- the choice by the room
   abbrev by_room : Bool → Making
@@ -36,11 +35,11 @@ module _ (M : Meaning) (k : List ℕ) (pad room : ℕ) (rs : List Record) where
 
   -- there is enough
   pub making_fits : (out later : List ℕ) → Holds room rs out → length (message rs) + 12 ≤ room
-      → later ≡ put out (length (message rs)) (bytes_of (seal_field M.code (eight (sealed M k pad rs))))
+      → later ≡ put out (length (message rs)) (bytes_of (seal_field M.code (bytes_of_word (sealed M k pad rs))))
       → (Ok (length (message rs) + 12), later) ≡ making M k pad room (all_taken rs)
   making_fits out later holds h e =
-      ap₂ answered (sym image_length)
-      (e ∙ put_more room (message rs) (bytes_of (seal_field M.code (eight (sealed M k pad rs)))) out (omega (arith, h, image_length)) (holds (omega arith)))
+      ap₂ done (sym image_length)
+      (e ∙ put_more room (message rs) (bytes_of (seal_field M.code (bytes_of_word (sealed M k pad rs)))) out (omega (arith, h, image_length)) (holds (omega arith)))
       ∙ sym (ap by_room (le-leb (length (sealed_image M k pad rs)) room (omega (arith, h, image_length))))
 
 own_filled_up : (i : List ℕ) → filled_up (length i) i ≡ i
@@ -51,7 +50,7 @@ pub making_own : (M : Meaning) (k : List ℕ) (pad : ℕ) (rs : List Record)
     → making M k pad (length (sealed_image M k pad rs)) (all_taken rs) ≡ (Ok (length (sealed_image M k pad rs)), sealed_image M k pad rs)
 making_own M k pad rs =
     let i = sealed_image M k pad rs in
-    ap (by_room M k pad (length i) rs) (le-leb (length i) (length i) (omega arith)) ∙ ap (answered (length i)) (own_filled_up i)
+    ap (by_room M k pad (length i) rs) (le-leb (length i) (length i) (omega arith)) ∙ ap (done (length i)) (own_filled_up i)
 
 same_length : (m n : ℕ) → ◌≡◌ {A = Result ℕ (ℕ × (ℕ × ℕ))} (Ok m) (Ok n) → m ≡ n
 same_length m n e = cc

@@ -1,5 +1,5 @@
 -- The seal of a text behind its key buffer, by a family's meaning and by its closed formula.
-use Rattle.std.proofs.Common.{◌≡◌, ℕ, ◌+◌, ◌<◌, ◌≤◌, Bool, true, false, cond, eqb, leb, List, [], length, take, drop, Some, None, Ok, Option, sym, refl, ap, ◌∙◌, ap₂, subst, arith, length-take, take-take}
+use Rattle.std.proofs.Common.{◌≡◌, ℕ, ◌+◌, ◌<◌, ◌≤◌, Bool, true, false, cond, eqb, leb, List, [], length, take, drop, Some, None, Ok, Option, sym, refl, ap, ◌∙◌, ap₂, subst, arith, length-take, take-take, Err}
 use lib.Bits.{bit_xor}
 use Rattle.std.proofs.ByRecursion.{All-drop, All-take}
 use Rattle.std.proofs.lemmas.List.{drop-take}
@@ -8,8 +8,7 @@ use Rattle.std.proofs.lemmas.Bool.{eq-eqb, le-leb, leb-true}
 use Rattle.hashes.specs.Division.{division_family}
 use Rattle.hashes.specs.Evaluation.{evaluation_family}
 use Rattle.hashes.specs.Family.{Meaning}
-use Rattle.hashes.specs.KeyFault as key
-use Rattle.hashes.specs.KeyFault.{judged}
+use Rattle.hashes.specs.KeyFault.{judged, Answer}
 use Rattle.hashes.specs.Toeplitz.{toeplitz_family}
 use Rattle.hashes.specs.Word.{Bytes, word}
 use Rattle.hashes.specs.DivisionFamily.{division_facts}
@@ -30,7 +29,7 @@ use Rattle.line_reader.proofs.TextsPass.{sent_book}
 -- ---- by the meaning
 
 -- a buffer that is taken, by its key
-taken_key : {V : Type 0} (v w : V) (o : Option ℕ) (later : SiteSeal) → key.taken w ≡ judged v o → (w ≡ v) × (later ≡ unless_refused_key o later)
+taken_key : {V : Type 0} (v w : V) (o : Option ℕ) (later : SiteSeal) → Ok w ≡ judged v o → (w ≡ v) × (later ≡ unless_refused_key o later)
 taken_key v w None later e = (cc, refl)
 taken_key v w (Some m) later e = let z : ◌≡◌ {A = ℕ} 0 1 = cc in absurd (omega arith)
 
@@ -41,8 +40,8 @@ module _ (M : Meaning) (rest : List ℕ) where
   pub pad_in : ℕ
   pad_in = word (take 8 (drop M.key_len rest))
 
-  opening_by : Bool → List ℕ → List ℕ → key.Answer (View M)
-  opening_by b k pad = cond b (judged (standing M k (word pad) []) (M.refusal k)) (key.refused 1)
+  opening_by : Bool → List ℕ → List ℕ → Answer (View M)
+  opening_by b k pad = cond b (judged (standing M k (word pad) []) (M.refusal k)) (Err 1)
 
   scheme_is : M.key_len + 8 ≤ length rest → (s : Sent) → sent [] (lines_of (drop (M.key_len + 8) rest)) 1 ≡ s
       → unless_refused_key (M.refusal key_in) (seal_of_lines (scheme_of M) key_in pad_in s) ≡ seal_by_scheme (scheme_of M) rest
@@ -72,10 +71,10 @@ module _ {M : Meaning} {rest buffer text : List ℕ} (cut : Cut M rest buffer te
       sized : length (take (M.key_len + 8) rest) ≡ M.key_len + 8
       sized = omega (arith, length-take (M.key_len + 8) rest, cut.long)
 
-  pub opened_stands : (v : View M) → key.taken v ≡ opening M buffer → v ≡ standing M (key_in M rest) (pad_in M rest) []
+  pub opened_stands : (v : View M) → Ok v ≡ opening M buffer → v ≡ standing M (key_in M rest) (pad_in M rest) []
   opened_stands v o = (taken_key _ v (M.refusal (key_in M rest)) (no_seal 0) (o ∙ opening_is)).0
 
-  pub lines_come : (v : View M) → key.taken v ≡ opening M buffer → (s : Sent) → sent [] (lines_of text) 1 ≡ s
+  pub lines_come : (v : View M) → Ok v ≡ opening M buffer → (s : Sent) → sent [] (lines_of text) 1 ≡ s
       → seal_of_lines (scheme_of M) (key_in M rest) (pad_in M rest) s ≡ seal_by_scheme (scheme_of M) rest
   lines_come v o s comes =
       (taken_key _ v (M.refusal (key_in M rest)) _ (o ∙ opening_is)).1

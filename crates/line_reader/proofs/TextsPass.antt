@@ -1,15 +1,14 @@
 -- The check passes an image exactly when some text makes it.
-use Rattle.std.proofs.Common.{◌≡◌, ℕ, ◌+◌, ◌^◌, ◌<◌, Bool, true, false, cond, eqb, List, [], ◌∷◌, ◌++◌, map, length, drop, Some, None, Ok, Option, sym, refl, ap, ◌∙◌, subst, append_assoc, append-nil, arith, length-drop, length-take}
+use Rattle.std.proofs.Common.{◌≡◌, ℕ, ◌+◌, ◌^◌, ◌<◌, Bool, true, false, cond, eqb, List, [], ◌∷◌, ◌++◌, map, length, drop, Some, None, Ok, Option, sym, refl, ap, ◌∙◌, subst, append_assoc, append-nil, arith, length-drop, length-take, Err}
 use lib.Bits.{xor_lt}
 use Rattle.std.proofs.ByRecursion.{All-take, All-drop}
 use Rattle.std.proofs.lemmas.Bool.{eqb-true}
 use Rattle.hashes.specs.Family.{Meaning, Lawful, Key, hash}
-use Rattle.hashes.specs.KeyFault as key
-use Rattle.hashes.specs.KeyFault.{judged}
+use Rattle.hashes.specs.KeyFault.{judged, Answer}
 use Rattle.hashes.specs.Word.{Bytes, word}
 use Rattle.hashes.specs.Bytes.{word_64, word_injective}
 use Rattle.register.specs.declared.fault.RecordFault.{RecordFault}
-use Rattle.register.specs.Book.{Book, TakenAfter}
+use Rattle.register.specs.Book.{BookRecords, TakenAfter}
 use Rattle.register.specs.Check.{Passes}
 use Rattle.register.specs.Image.{image}
 use Rattle.register.specs.Records.{Record, message}
@@ -20,18 +19,18 @@ use Rattle.register.proofs.Checked.{opened_is}
 use Rattle.register.proofs.Rows.{accepted_iff}
 use Rattle.register.proofs.Runs.{step_sound}
 use Rattle.line_reader.specs.Calls.{line_input}
-use Rattle.line_reader.specs.Making.{Making, Sent, all_taken, stopped, eight, made, made_by, making, sealed_image, sent, unless_refused, TextsPass}
+use Rattle.line_reader.specs.Making.{Making, Sent, all_taken, stopped, bytes_of_word, made, made_by, making, sealed_image, sent, unless_refused, TextsPass}
 use Rattle.line_reader.specs.Texts.{line_of, lines_of, text_of}
 use Rattle.line_reader.proofs.Makings.{making_is, making_own, not_made, opened_made}
 use Rattle.line_reader.proofs.Written.{line_reads, text_bytes, text_lines}
 
 -- ---- a word and its eight bytes
 
-eight_bytes : (w : ℕ) → Bytes (eight w)
-eight_bytes w = (omega arith, (omega arith, (omega arith, (omega arith, (omega arith, (omega arith, (omega arith, (omega arith, tt))))))))
+word_as_bytes : (w : ℕ) → Bytes (bytes_of_word w)
+word_as_bytes w = (omega arith, (omega arith, (omega arith, (omega arith, (omega arith, (omega arith, (omega arith, (omega arith, tt))))))))
 
-word_eight : (w : ℕ) → w < 2 ^ 64 → word (eight w) ≡ w
-word_eight w h = omega arith
+word_of_bytes : (w : ℕ) → w < 2 ^ 64 → word (bytes_of_word w) ≡ w
+word_of_bytes w h = omega arith
 
 -- ---- the records of lines that are all taken are a book's
 
@@ -59,7 +58,7 @@ sent_takes before [] n rs e = ([], sym (all_same before rs e) ∙ sym (append-ni
 sent_takes before (line ∷ lines) n rs e =
     step_takes before rs _ n (line_input line) _ _ (step_sound before (line_input line)) (sent_takes (step before (line_input line)).1 lines (n + 1) rs) e
 
-pub sent_book : (lines : List (List ℕ)) (n : ℕ) (rs : List Record) → sent [] lines n ≡ all_taken rs → Book rs
+pub sent_book : (lines : List (List ℕ)) (n : ℕ) (rs : List Record) → sent [] lines n ≡ all_taken rs → BookRecords rs
 unfolding Adds
 sent_book lines n rs e = let m = sent_takes [] lines n rs e in subst (TakenAfter []) (sym m.1) m.2
 
@@ -79,12 +78,12 @@ text_sends before (r ∷ rs) n h =
 
 -- ---- a buffer that opens holds a key and a pad
 
-sized_key : {V : Type 0} (b : Bool) (v w : V) (o : Option ℕ) → key.taken v ≡ cond b (judged w o) (key.refused 1) → (b ≡ true) × (o ≡ None)
+sized_key : {V : Type 0} (b : Bool) (v w : V) (o : Option ℕ) → Ok v ≡ cond b (judged w o) (Err 1) → (b ≡ true) × (o ≡ None)
 sized_key true v w None e = (refl, refl)
 sized_key true v w (Some n) e = let z : ◌≡◌ {A = ℕ} 0 1 = cc in absurd (omega arith)
 sized_key false v w o e = let z : ◌≡◌ {A = ℕ} 0 1 = cc in absurd (omega arith)
 
-module _ (M : Meaning) (buffer : List ℕ) (bs : Bytes buffer) (v : View M) (opens : key.taken v ≡ opening M buffer) where
+module _ (M : Meaning) (buffer : List ℕ) (bs : Bytes buffer) (v : View M) (opens : Ok v ≡ opening M buffer) where
   parts : (eqb (length buffer) (M.key_len + 8) ≡ true) × (M.refusal (key_of M buffer) ≡ None)
   parts = sized_key (eqb (length buffer) (M.key_len + 8)) v _ (M.refusal (key_of M buffer)) opens
 
@@ -98,7 +97,7 @@ module _ (M : Meaning) (buffer : List ℕ) (bs : Bytes buffer) (v : View M) (ope
   pad_small = word_64 (drop M.key_len buffer) (All-drop (λ (b : ℕ). b < 256) M.key_len buffer bs) (simp length-drop (omega (arith, sized)))
 
   -- the seal of a book's records is a word
-  sealed_small : Lawful M → (rs : List Record) → Book rs → sealed M (key_of M buffer) (pad_of M buffer) rs < 2 ^ 64
+  sealed_small : Lawful M → (rs : List Record) → BookRecords rs → sealed M (key_of M buffer) (pad_of M buffer) rs < 2 ^ 64
   sealed_small laws rs b = xor_lt 64 (hash M (key_of M buffer) (message rs)) (pad_of M buffer) (laws.words (key_of M buffer) (message rs) opened_key (book_bytes rs b)) pad_small
 
 -- ---- the two ways
@@ -112,10 +111,10 @@ module _ (M : Meaning) (laws : Lawful M) (buffer bytes : List ℕ) (bs : Bytes b
   passes_text p =
       (text_of p.records, text_bytes [] p.records p.book, subst (λ (x : List ℕ). made M buffer (text_of p.records) (length x) ≡ (Ok (length x), x)) (sym whole) makes)
     where
-      seal_is : p.seal ≡ eight (sealed M (key_of M buffer) (pad_of M buffer) p.records)
+      seal_is : p.seal ≡ bytes_of_word (sealed M (key_of M buffer) (pad_of M buffer) p.records)
       seal_is =
-          word_injective p.seal (eight (sealed M (key_of M buffer) (pad_of M buffer) p.records)) (seal_bytes p.records M.code p.seal (subst Bytes p.framed bi)) (eight_bytes _) p.eight
-          (p.agrees ∙ sym (word_eight _ (sealed_small M buffer bs _ (sym p.opens) laws p.records p.book)))
+          word_injective p.seal (bytes_of_word (sealed M (key_of M buffer) (pad_of M buffer) p.records)) (seal_bytes p.records M.code p.seal (subst Bytes p.framed bi)) (word_as_bytes _) p.eight_bytes
+          (p.agrees ∙ sym (word_of_bytes _ (sealed_small M buffer bs _ (sym p.opens) laws p.records p.book)))
 
       whole : bytes ≡ own_image p.records
       whole = p.framed ∙ ap (image p.records M.code) seal_is
@@ -126,24 +125,24 @@ module _ (M : Meaning) (laws : Lawful M) (buffer bytes : List ℕ) (bs : Bytes b
           (ap (λ (ls : List (List ℕ)). sent [] ls 1) (text_lines [] p.records p.book) ∙ text_sends [] p.records 1 p.book)
           ∙ making_own M (key_of M buffer) (pad_of M buffer) p.records
 
-  sent_passes : (text : List ℕ) (v : View M) → opening M buffer ≡ key.taken v → (s : Sent) → sent [] (lines_of text) 1 ≡ s
+  sent_passes : (text : List ℕ) (v : View M) → opening M buffer ≡ Ok v → (s : Sent) → sent [] (lines_of text) 1 ≡ s
       → making M (key_of M buffer) (pad_of M buffer) (length bytes) s ≡ (Ok (length bytes), bytes) → Passes M buffer bytes
   sent_passes text v o (stopped n line column) s e = not_made _ _ (ap (λ (m : Making). m.0) e)
   sent_passes text v o (all_taken rs) s e =
       let b = sent_book (lines_of text) 1 rs s in
       record {
-        opens = o ∙ ap key.taken (opened_is M buffer v (sym o));
+        opens = o ∙ ap Ok (opened_is M buffer v (sym o));
         records = rs;
         book = b;
-        seal = eight (sealed M (key_of M buffer) (pad_of M buffer) rs);
-        eight = refl;
+        seal = bytes_of_word (sealed M (key_of M buffer) (pad_of M buffer) rs);
+        eight_bytes = refl;
         framed = making_is M (key_of M buffer) (pad_of M buffer) rs bytes e;
-        agrees = word_eight _ (sealed_small M buffer bs v (sym o) laws rs b);
+        agrees = word_of_bytes _ (sealed_small M buffer bs v (sym o) laws rs b);
       }
 
-  text_passes : (text : List ℕ) (a : key.Answer (View M)) → opening M buffer ≡ a → made_by M buffer text (length bytes) a ≡ (Ok (length bytes), bytes) → Passes M buffer bytes
-  text_passes text (key.taken v) o e = sent_passes text v o (sent [] (lines_of text) 1) refl e
-  text_passes text (key.refused n) o e = not_made _ _ (ap (λ (m : Making). m.0) e)
+  text_passes : (text : List ℕ) (a : Answer (View M)) → opening M buffer ≡ a → made_by M buffer text (length bytes) a ≡ (Ok (length bytes), bytes) → Passes M buffer bytes
+  text_passes text (Ok v) o e = sent_passes text v o (sent [] (lines_of text) 1) refl e
+  text_passes text (Err n) o e = not_made _ _ (ap (λ (m : Making). m.0) e)
 
 pub texts_pass : (M : Meaning) → Lawful M → TextsPass M
 texts_pass M laws buffer bytes bs bi = (passes_text M laws buffer bytes bs bi, λ t. text_passes M laws buffer bytes bs bi t.0 (opening M buffer) refl t.2)

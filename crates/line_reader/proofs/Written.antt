@@ -50,7 +50,7 @@ kind_is (suc (suc (suc (suc (suc k))))) l h = absurd (omega arith)
 -- ---- lines
 
 spelled_reads : (line : List ℕ) (s : Sentence) → Spells line s → line_input line ≡ reading_input (Ok s)
-spelled_reads line s h = ap reading_input ((readings_exact.taken line s).1 h)
+spelled_reads line s h = ap reading_input ((readings_exact.sentence line s).1 h)
 
 -- the line of a record that a book takes asks for it
 pub line_reads : (before : List records.Record) (r : records.Record) → Accepted before r → line_input (line_of r) ≡ a_record r

@@ -6,9 +6,9 @@ use Rattle.line_reader.specs.Reading.{reading, decoded}
 
 pub record ReadingsExact : Type 0 where
   -- it answers what the line says, and nothing else
-  pub taken : (line : List ℕ) (s : Sentence) → (reading line ≡ Ok s) ↔ Spells line s
+  pub sentence : (line : List ℕ) (s : Sentence) → (reading line ≡ Ok s) ↔ Spells line s
   -- it answers the fault and the column of a line outside the grammar, and no others
-  pub refused : (line : List ℕ) (f : ReadFault) (c : ℕ) → (reading line ≡ Err (f, c)) ↔ Faulty line f c
+  pub fault : (line : List ℕ) (f : ReadFault) (c : ℕ) → (reading line ≡ Err (f, c)) ↔ Faulty line f c
   -- a line says at most one thing, and has at most one fault and column
   pub one_sentence : (line : List ℕ) (s t : Sentence) → Spells line s → Spells line t → s ≡ t
   pub one_fault : (line : List ℕ) (f g : ReadFault) (c d : ℕ) → Faulty line f c → Faulty line g d → (f ≡ g) × (c ≡ d)

@@ -1,8 +1,8 @@
 -- The promise on the seals of two sites, for every family: what lists of calls on new registers come to, and under how few keys the seals of
 -- different sites, or the checks of different images, agree.
-use Rattle.std.specs.Prelude.{◌≡◌, ℕ, max, ◌≢◌, ◌↔◌, List, [], ◌∷◌, ◌++◌, map, length, bit_xor}
+use Rattle.std.specs.Prelude.{◌≡◌, ℕ, max, ◌≢◌, ◌↔◌, List, [], ◌∷◌, ◌++◌, map, length, bit_xor, Ok, Err}
 use Rattle.hashes.specs.Family.{Meaning, AtMost}
-use Rattle.hashes.specs.KeyFault.{Answer, answered, taken, refused}
+use Rattle.hashes.specs.KeyFault.{Answer, answered}
 use Rattle.hashes.specs.Word.{Bytes}
 use Rattle.register.specs.Check.{Passes}
 use Rattle.register.specs.ImageMessage.{message_of}
@@ -29,8 +29,8 @@ sealing M buffer calls = answered (λ _. sealed M (key_of M buffer) (pad_of M bu
 
 -- the replies that are given: none where the buffer is refused
 abbrev pub replies_if : {A : Type 0} → Answer A → List Call → List Reply
-replies_if (taken v) calls = replies_of calls
-replies_if (refused n) calls = []
+replies_if (Ok v) calls = replies_of calls
+replies_if (Err n) calls = []
 
 -- replies put into places in order, as far as there are places; the other places stay
 abbrev pub placed : List Reply → List Reply → List Reply

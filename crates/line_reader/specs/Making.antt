@@ -1,7 +1,7 @@
 -- What making the image of a text answers and leaves, and that the check passes just the images that texts make.
 use Rattle.std.specs.Prelude.{◌≡◌, ℕ, ◌+◌, ◌/◌, ◌%◌, ◌^◌, cond, ◌↔◌, List, [], ◌∷◌, length, replicate, Ok, Err, Result, nat_le}
 use Rattle.hashes.specs.Family.{Meaning}
-use Rattle.hashes.specs.KeyFault as key
+use Rattle.hashes.specs.KeyFault.{Answer}
 use Rattle.hashes.specs.Word.{Bytes}
 use Rattle.register.specs.Check.{Passes}
 use Rattle.register.specs.Image.{image}
@@ -30,13 +30,13 @@ sent before (line ∷ lines) n =
     unless_refused s.0 n (sent s.1 lines (n + 1))
 
 -- a word as eight bytes, highest first
-abbrev pub eight : ℕ → List ℕ
-eight w =
+abbrev pub bytes_of_word : ℕ → List ℕ
+bytes_of_word w =
     (w / 2 ^ 56 % 256) ∷ (w / 2 ^ 48 % 256) ∷ (w / 2 ^ 40 % 256) ∷ (w / 2 ^ 32 % 256) ∷ (w / 2 ^ 24 % 256) ∷ (w / 2 ^ 16 % 256) ∷ (w / 2 ^ 8 % 256) ∷ (w % 256) ∷ []
 
 -- the image of records under a key and a pad
 abbrev pub sealed_image : Meaning → List ℕ → ℕ → List Record → List ℕ
-sealed_image M key pad rs = image rs M.code (eight (sealed M key pad rs))
+sealed_image M key pad rs = image rs M.code (bytes_of_word (sealed M key pad rs))
 
 -- An answer, and the output after it: the image's length, or a refusal's number with the line and the column.
 abbrev pub Making : Type 0
@@ -53,9 +53,9 @@ making M key pad room (all_taken rs) =
     cond (nat_le (length i) room) (Ok (length i), filled_up room i) (unmade room 50 0 0)
 making M key pad room (stopped number line column) = unmade room number line column
 
-abbrev pub made_by : (M : Meaning) → List ℕ → List ℕ → ℕ → key.Answer (View M) → Making
-made_by M buffer text room (key.taken v) = making M (key_of M buffer) (pad_of M buffer) room (sent [] (lines_of text) 1)
-made_by M buffer text room (key.refused n) = unmade room n 0 0
+abbrev pub made_by : (M : Meaning) → List ℕ → List ℕ → ℕ → Answer (View M) → Making
+made_by M buffer text room (Ok v) = making M (key_of M buffer) (pad_of M buffer) room (sent [] (lines_of text) 1)
+made_by M buffer text room (Err n) = unmade room n 0 0
 
 -- what making the image of a text by a key buffer comes to, in an output with so much room
 abbrev pub made : Meaning → List ℕ → List ℕ → ℕ → Making

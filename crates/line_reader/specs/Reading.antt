@@ -122,13 +122,13 @@ abbrev pub read_whole : List ℕ → Stage Sentence
 read_whole text = and_then (read_form text) (λ s t. and_then (read_end t) (λ _ t. (t, Ok s)))
 
 -- the answer on a line of which a stage leaves t
-abbrev pub answer : List ℕ → Stage Sentence → Result Sentence (ReadFault × ℕ)
-answer line (t, Ok s) = Ok s
-answer line (t, Err f) = Err (f, length line - length t)
+abbrev pub with_column : List ℕ → Stage Sentence → Result Sentence (ReadFault × ℕ)
+with_column line (t, Ok s) = Ok s
+with_column line (t, Err f) = Err (f, length line - length t)
 
 -- what a line says, or its fault and column
 abbrev pub reading : List ℕ → Result Sentence (ReadFault × ℕ)
-reading line = answer line (read_whole line)
+reading line = with_column line (read_whole line)
 
 -- what a line as read says
 abbrev pub said : Line → Sentence

@@ -6,7 +6,7 @@ use Rattle.std.proofs.lemmas.List.{take_at, drop_at}
 use Rattle.hashes.specs.Family.{Meaning, Lawful, Key, AtMost, hash}
 use Rattle.hashes.specs.Word.{Bytes, word}
 use Rattle.register.specs.Records.{Record, bytes_of, message}
-use Rattle.register.specs.Book.{Book}
+use Rattle.register.specs.Book.{BookRecords}
 use Rattle.register.specs.Image.{image, seal_field}
 use Rattle.register.specs.ImageMessage.{message_of}
 use Rattle.register.specs.View.{sealed, key_of, pad_of}
@@ -32,7 +32,7 @@ pads_out a b p q d e =
 at_most_weaker : (M : Meaning) (n : ℕ) (P Q : List ℕ → Type 0) → ((key : List ℕ) → Key M key → P key → Q key) → AtMost M n Q → AtMost M n P
 at_most_weaker M n P Q f h keys once all = h keys once (All-weaker _ _ (λ key k. (k.0, f key k.0 k.1)) keys all)
 
-pub book_bytes : (rs : List Record) → Book rs → Bytes (message rs)
+pub book_bytes : (rs : List Record) → BookRecords rs → Bytes (message rs)
 book_bytes rs b = message_bytes rs (taken_encodable [] rs b)
 
 -- the seal bytes of an image
@@ -41,7 +41,7 @@ seal_bytes rs code seal b = (bytes_right (message rs) (bytes_of (seal_field code
 
 module _ (M : Meaning) (laws : Lawful M) where
   -- different records: few keys give seals that differ by d
-  pub seals : (rs ss : List Record) (pad_r pad_s d : ℕ) → Book rs → Book ss → rs ≢ ss
+  pub seals : (rs ss : List Record) (pad_r pad_s d : ℕ) → BookRecords rs → BookRecords ss → rs ≢ ss
       → AtMost M (M.bound (max (length (message rs)) (length (message ss)))) (λ key. bit_xor (sealed M key pad_r rs) (sealed M key pad_s ss) ≡ d)
   seals rs ss pad_r pad_s d b c apart =
       at_most_weaker M _ _ (λ key. bit_xor (hash M key (message rs)) (hash M key (message ss)) ≡ bit_xor d (bit_xor pad_r pad_s))
@@ -56,17 +56,17 @@ module _ (M : Meaning) (laws : Lawful M) where
   pad_is key pad k = ap word (drop_at key pad M.key_len k.sized)
 
   -- an image passes by its own records and seal, whatever the key
-  passes_word : (i key pad : List ℕ) → Bytes i → Key M key → (p : Passes M (key ++ pad) i) (rs : List Record) (s : List ℕ) → Book rs → length s ≡ 8 → i ≡ image rs M.code s
+  passes_word : (i key pad : List ℕ) → Bytes i → Key M key → (p : Passes M (key ++ pad) i) (rs : List Record) (s : List ℕ) → BookRecords rs → length s ≡ 8 → i ≡ image rs M.code s
       → sealed M key (word pad) rs ≡ word s
   passes_word i key pad b k p rs s book eight framed =
-      let same = one_book M.code i b rs p.records s p.seal book p.book eight p.eight framed p.framed in
+      let same = one_book M.code i b rs p.records s p.seal book p.book eight p.eight_bytes framed p.framed in
       ap (sealed M key (word pad)) same.0
       ∙ ap₂ (λ (x : List ℕ) (w : ℕ). sealed M x w p.records) (sym (key_is key pad k)) (sym (pad_is key pad k))
       ∙ sym p.agrees ∙ ap word (sym same.1)
 
   -- the message of an image that passes is that of its records
   message_is : (i buffer : List ℕ) (p : Passes M buffer i) → message_of i ≡ message p.records
-  message_is i buffer p = ap message_of p.framed ∙ message_of_image p.records M.code p.seal p.eight
+  message_is i buffer p = ap message_of p.framed ∙ message_of_image p.records M.code p.seal p.eight_bytes
 
   -- images whose records differ wherever both pass: few keys pass both, each with its own pad
   passing : (i j pad_i pad_j : List ℕ) → Bytes i → Bytes j
@@ -81,8 +81,8 @@ module _ (M : Meaning) (laws : Lawful M) where
       (All-weaker _ _
       (λ x h. (
         h.0,
-        ap₂ bit_xor (passes_word i x pad_i bi h.0 h.1.0 p.records p.seal p.book p.eight p.framed)
-            (passes_word j x pad_j bj h.0 h.1.1 q.records q.seal q.book q.eight q.framed),
+        ap₂ bit_xor (passes_word i x pad_i bi h.0 h.1.0 p.records p.seal p.book p.eight_bytes p.framed)
+            (passes_word j x pad_j bj h.0 h.1.1 q.records q.seal q.book q.eight_bytes q.framed),
       ))
       (key ∷ keys) all))
 
@@ -95,7 +95,7 @@ module _ (M : Meaning) (laws : Lawful M) where
       differ key p q e =
           let same : p.seal ≡ q.seal =
           word_injective p.seal q.seal (seal_bytes p.records M.code p.seal (subst Bytes p.framed bi)) (seal_bytes q.records M.code q.seal (subst Bytes q.framed bj))
-          (p.eight ∙ sym q.eight) (p.agrees ∙ ap (sealed M (key_of M (key ++ pad)) (pad_of M (key ++ pad))) e ∙ sym q.agrees) in
+          (p.eight_bytes ∙ sym q.eight_bytes) (p.agrees ∙ ap (sealed M (key_of M (key ++ pad)) (pad_of M (key ++ pad))) e ∙ sym q.agrees) in
           apart (p.framed ∙ ap₂ (λ rs s. image rs M.code s) e same ∙ sym q.framed)
 
   -- two images with different messages, each with its own pad

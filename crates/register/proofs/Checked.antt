@@ -1,7 +1,7 @@
 -- From the check's way through an image to its verdict.
 use Rattle.std.proofs.Common.{◌≡◌, ℕ, ◌+◌, Bool, true, false, cond, eqb, List, [], length, Some, None, Ok, Err, Option, ap, ◌∙◌, ap₂}
 use Rattle.hashes.specs.Family.{Meaning}
-use Rattle.hashes.specs.KeyFault.{taken, refused, judged}
+use Rattle.hashes.specs.KeyFault.{judged}
 use Rattle.register.specs.declared.fault.ImageFault.{ImageFault}
 use Rattle.register.specs.Faults.{number_of_image_fault}
 use Rattle.register.specs.Image.{Outcome, compares, faulty, check}
@@ -10,15 +10,15 @@ use Rattle.register.specs.Check.{says, faulted, verdict, checked, checked_by}
 use Rattle.register.specs.Walking.{Answers}
 
 -- a buffer that opens gives a register that took no record
-judged_is : {V : Type 0} (v w : V) (o : Option ℕ) → taken v ≡ judged w o → v ≡ w
+judged_is : {V : Type 0} (v w : V) (o : Option ℕ) → Ok v ≡ judged w o → v ≡ w
 judged_is v w None e = cc
 judged_is v w (Some n) e = absurd cc
 
-sized_is : {V : Type 0} (b : Bool) (v w : V) (o : Option ℕ) → taken v ≡ cond b (judged w o) (refused 1) → v ≡ w
+sized_is : {V : Type 0} (b : Bool) (v w : V) (o : Option ℕ) → Ok v ≡ cond b (judged w o) (Err 1) → v ≡ w
 sized_is true v w o e = judged_is v w o e
 sized_is false v w o e = absurd cc
 
-pub opened_is : (M : Meaning) (buffer : List ℕ) (v : View M) → taken v ≡ opening M buffer → v ≡ standing M (key_of M buffer) (pad_of M buffer) []
+pub opened_is : (M : Meaning) (buffer : List ℕ) (v : View M) → Ok v ≡ opening M buffer → v ≡ standing M (key_of M buffer) (pad_of M buffer) []
 opened_is M buffer v e = sized_is (eqb (length buffer) (M.key_len + 8)) v _ (M.refusal (key_of M buffer)) e
 
 module _ (M : Meaning) (key : List ℕ) (pad : ℕ) where
@@ -31,7 +31,7 @@ module _ (M : Meaning) (key : List ℕ) (pad : ℕ) where
   verdict_faults (faulty n offset) e w h = ap₂ faulted h.0 h.1
 
 -- of a buffer that opens
-module _ (M : Meaning) (buffer image : List ℕ) (v : View M) (opens : taken v ≡ opening M buffer) where
+module _ (M : Meaning) (buffer image : List ℕ) (v : View M) (opens : Ok v ≡ opening M buffer) where
   pub check_says : (s : ℕ) (w : View M) → Answers M (key_of M buffer) (pad_of M buffer) (check M.code image) (Ok s) w
       → says (cond (eqb s (seal M w)) 1 0) ≡ checked M buffer image
   check_says s w h = verdict_says M (key_of M buffer) (pad_of M buffer) (check M.code image) s w h ∙ ap (checked_by M buffer image) opens

@@ -7,7 +7,7 @@ use Rattle.register.specs.declared.fault.RecordFault.{RecordFault}
 use Rattle.register.specs.Records.{Record, Field, field, bytes_of, field_of, message}
 use Rattle.register.specs.Fields.{is_record_length, is_record, record_in, next_field, is_seal}
 use Rattle.register.specs.Known.{refusal}
-use Rattle.register.specs.Book.{TakenAfter, Book}
+use Rattle.register.specs.Book.{TakenAfter, BookRecords}
 use Rattle.register.specs.Image.{seal_field, image, BeginsRecord, BeginsSeal, Unframed, Outcome, compares, faulty, Checks, unframed, refuses, takes, trailing, other_code, ends, value_of, seal_outcome, record_outcome, field_outcome, check_from, check, FramingFault, is_known_length}
 use Rattle.register.proofs.Bytes.{bytes_left, bytes_right}
 use Rattle.register.proofs.Encoding.{next_field_reads, field_read, record_read, field_is_record, record_of_field}
@@ -222,22 +222,22 @@ module _ (code : ℕ) where
 
   -- the check gets to comparing seals exactly at the images of books
   pub check_compares : (bytes : List ℕ) → Bytes bytes → (rs : List Record) (seal : List ℕ) →
-      (check code bytes ≡ compares rs seal) ↔ (Book rs × (length seal ≡ 8) × (bytes ≡ image rs code seal))
+      (check code bytes ≡ compares rs seal) ↔ (BookRecords rs × (length seal ≡ 8) × (bytes ≡ image rs code seal))
   check_compares bytes bs rs seal = (to, from)
     where
-      to : check code bytes ≡ compares rs seal → Book rs × (length seal ≡ 8) × (bytes ≡ image rs code seal)
+      to : check code bytes ≡ compares rs seal → BookRecords rs × (length seal ≡ 8) × (bytes ≡ image rs code seal)
       to e =
           let c : Checks code [] bytes 0 (compares rs seal) = rw e at (check_is (length bytes) [] bytes 0 (omega arith) bs) in
           let m = compares_image [] bytes 0 rs seal c in
           (rw m.1 m.2, m.3, rw m.1 m.4)
 
-      from : Book rs × (length seal ≡ 8) × (bytes ≡ image rs code seal) → check code bytes ≡ compares rs seal
+      from : BookRecords rs × (length seal ≡ 8) × (bytes ≡ image rs code seal) → check code bytes ≡ compares rs seal
       from h =
           check_only (length bytes) [] bytes 0 (compares rs seal) (omega arith) bs
           (subst (λ b. Checks code [] b 0 (compares rs seal)) (sym h.2) (image_compares [] rs seal 0 h.0 h.1))
 
 -- an image tells its records and its seal
-pub one_book : (code : ℕ) (bytes : List ℕ) → Bytes bytes → (rs ss : List Record) (s t : List ℕ) → Book rs → Book ss → length s ≡ 8 → length t ≡ 8 →
+pub one_book : (code : ℕ) (bytes : List ℕ) → Bytes bytes → (rs ss : List Record) (s t : List ℕ) → BookRecords rs → BookRecords ss → length s ≡ 8 → length t ≡ 8 →
     bytes ≡ image rs code s → bytes ≡ image ss code t → (rs ≡ ss) × (s ≡ t)
 one_book code bytes bs rs ss s t b d ls lt e f =
     let x = (check_compares code bytes bs rs s).1 (b, ls, e) in

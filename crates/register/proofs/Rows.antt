@@ -9,7 +9,7 @@ use Rattle.hashes.specs.Word.{Bytes}
 use Rattle.register.specs.declared.fault.RecordFault.{RecordFault}
 use Rattle.register.specs.declared.fault.RecordFault.TheVariants.{Range, Name, Repeated, Missing, Full}
 use Rattle.register.specs.Records.{Record, zone, point, rule, message}
-use Rattle.register.specs.Book.{ZoneNumber, PointNumber, Kind, NameByte, ZoneName, DeclaresZone, DeclaresPoint, ZoneDeclared, PointDeclared, Fits, Refused, Accepted, rows, limit, InRange, NameFault, RepeatFault, MissingFault}
+use Rattle.register.specs.Book.{ZoneNumber, PointNumber, KindNumber, NameByte, ZoneName, DeclaresZone, DeclaresPoint, ZoneDeclared, PointDeclared, Fits, Refused, Accepted, rows, limit, InRange, NameFault, RepeatFault, MissingFault}
 use Rattle.register.specs.Known.{fits, refusal, within, zone_name, name_byte, known_of, zone_declared, point_declared, declares_zone, declares_point, in_range, name_fault, repeat_fault, missing_fault}
 use Rattle.register.proofs.Encoding.{Encodable, decides_leb, message_more}
 use Rattle.register.proofs.Firsts.{first_found, first_is_found, none_found, none_is_found}
@@ -58,7 +58,7 @@ decides_zone before z = decides_any (DeclaresZone z) (declares_zone z) (decides_
 pub decides_point : (before : List Record) (p : ℕ) → Decides (point_declared before p) (PointDeclared before p)
 decides_point before p = decides_any (DeclaresPoint p) (declares_point p) (decides_declares_point p) before
 
-decides_numbers : (n z kind : ℕ) → Decides (within 1 1000 n && within 1 250 z && within 1 4 kind) (PointNumber n × ZoneNumber z × Kind kind)
+decides_numbers : (n z kind : ℕ) → Decides (within 1 1000 n && within 1 250 z && within 1 4 kind) (PointNumber n × ZoneNumber z × KindNumber kind)
 decides_numbers n z kind =
     Decides-like _ (λ h. (h.0.0, h.0.1, h.1)) (λ h. ((h.0, h.1), h.2))
     (Decides-and _ _ (Decides-and _ _ (decides_within 1 1000 n) (decides_within 1 250 z)) (decides_within 1 4 kind))

@@ -4,7 +4,7 @@ use Rattle.std.specs.List.{AllByRecursion}
 use Rattle.register.specs.declared.fault.RecordFault.{RecordFault}
 use Rattle.register.specs.Records.{Record, message}
 use Rattle.register.specs.Known.{refusal}
-use Rattle.register.specs.Book.{limit, TakenAfter, Book}
+use Rattle.register.specs.Book.{limit, TakenAfter, BookRecords}
 use Rattle.register.specs.Run.{Input, a_record, no_record, unread, Reply, Step, takes, refuses, skips, rejects, Run, ends, calls, step_by, step, run}
 use Rattle.register.proofs.Encoding.{Encodable}
 use Rattle.register.proofs.Rows.{refusal_iff, accepted_iff, accepted_encodable, accepted_length}
@@ -58,11 +58,11 @@ taken_length before [] h l = rw append-nil l
 taken_length before (r ∷ rs) h l = rw append_assoc at (taken_length (before ++ (r ∷ [])) rs h.1 (accepted_length before r h.0))
 
 -- the records of a new register, after any calls
-pub run_book : (bs : List Input) (answers : List Reply) (rs : List Record) → Run [] bs answers rs → Book rs × (length (message rs) ≤ limit)
+pub run_book : (bs : List Input) (answers : List Reply) (rs : List Record) → Run [] bs answers rs → BookRecords rs × (length (message rs) ≤ limit)
 run_book bs answers rs h =
     let t = run_takes [] bs answers rs h in
     let e : rs ≡ t.0 = t.1 in
-    let b : Book rs = rw e t.2 in
+    let b : BookRecords rs = rw e t.2 in
     (b, taken_length [] rs b (omega arith))
 
 -- one call more

@@ -15,8 +15,8 @@ abbrev pub PointNumber : ℕ → Type 0
 PointNumber n = (1 ≤ n) × (n ≤ 1000)
 
 -- 1 smoke, 2 heat, 3 call, 4 sounder
-abbrev pub Kind : ℕ → Type 0
-Kind n = (1 ≤ n) × (n ≤ 4)
+abbrev pub KindNumber : ℕ → Type 0
+KindNumber n = (1 ≤ n) × (n ≤ 4)
 
 -- printable ASCII, or a line break
 abbrev pub NameByte : ℕ → Type 0
@@ -50,7 +50,7 @@ PointDeclared before p = (r : Record) × (r ∈ before) × DeclaresPoint p r
 -- the numbers of a record are such as a site has
 abbrev pub InRange : Record → Type 0
 InRange (zone n name) = ZoneNumber n
-InRange (point n z kind) = PointNumber n × ZoneNumber z × Kind kind
+InRange (point n z kind) = PointNumber n × ZoneNumber z × KindNumber kind
 InRange (rule z p) = ZoneNumber z × PointNumber p
 
 -- 20: a zone, a point or a kind is out of its range
@@ -104,5 +104,5 @@ TakenAfter before [] = Unit {0}
 TakenAfter before (r ∷ rs) = Accepted before r × TakenAfter (before ++ (r ∷ [])) rs
 
 -- the records of a book: each was taken after those before it
-abbrev pub Book : List Record → Type 0
-Book rs = TakenAfter [] rs
+abbrev pub BookRecords : List Record → Type 0
+BookRecords rs = TakenAfter [] rs

@@ -1,12 +1,12 @@
 -- What the check of an image answers, and which images it passes.
 use Rattle.std.specs.Prelude.{◌≡◌, ℕ, Bool, cond, if◌then◌else◌, List, [], length, Ok, Err, Result, ◌==◌}
 use Rattle.hashes.specs.Family.{Meaning}
-use Rattle.hashes.specs.KeyFault.{Answer, taken, refused}
+use Rattle.hashes.specs.KeyFault.{Answer}
 use Rattle.hashes.specs.Word.{word}
 use Rattle.register.specs.declared.fault.ImageFault.{ImageFault}
 use Rattle.register.specs.Records.{Record}
 use Rattle.register.specs.Faults.{number_of_image_fault}
-use Rattle.register.specs.Book.{Book}
+use Rattle.register.specs.Book.{BookRecords}
 use Rattle.register.specs.Image.{Outcome, compares, faulty, check, image}
 use Rattle.register.specs.View.{View, standing, sealed, key_of, pad_of, opening}
 
@@ -22,11 +22,11 @@ verdict_of (Err e) = faulted (number_of_image_fault e.0) e.1
 
 -- The check passes an image under a key buffer: the buffer opens, and the image is that of a book's records, with bytes that write their seal.
 pub record Passes (M : Meaning) (buffer bytes : List ℕ) : Type 0 where
-  pub opens : opening M buffer ≡ taken (standing M (key_of M buffer) (pad_of M buffer) [])
+  pub opens : opening M buffer ≡ Ok (standing M (key_of M buffer) (pad_of M buffer) [])
   pub records : List Record
-  pub book : Book records
+  pub book : BookRecords records
   pub seal : List ℕ
-  pub eight : length seal ≡ 8
+  pub eight_bytes : length seal ≡ 8
   pub framed : bytes ≡ image records M.code seal
   pub agrees : word seal ≡ sealed M (key_of M buffer) (pad_of M buffer) records
 
@@ -36,8 +36,8 @@ verdict M key pad (compares rs seal) = says (cond (word seal == sealed M key pad
 verdict M key pad (faulty n offset) = faulted n offset
 
 abbrev pub checked_by : (M : Meaning) → List ℕ → List ℕ → Answer (View M) → Verdict
-checked_by M buffer bytes (taken v) = verdict M (key_of M buffer) (pad_of M buffer) (check M.code bytes)
-checked_by M buffer bytes (refused n) = faulted n 0
+checked_by M buffer bytes (Ok v) = verdict M (key_of M buffer) (pad_of M buffer) (check M.code bytes)
+checked_by M buffer bytes (Err n) = faulted n 0
 
 -- what the check of an image by a key buffer answers
 abbrev pub checked : (M : Meaning) → List ℕ → List ℕ → Verdict

@@ -1,11 +1,10 @@
 -- What holds of the definitions: the functions give what the relations say, and no relation has two outcomes; and how rarely seals and images agree.
-use Rattle.std.specs.Prelude.{◌≡◌, ℕ, ◌≤◌, max, ◌≢◌, ◌↔◌, List, [], ◌∷◌, ◌++◌, length, take, Some, None, bit_xor}
+use Rattle.std.specs.Prelude.{◌≡◌, ℕ, ◌≤◌, max, ◌≢◌, ◌↔◌, List, [], ◌∷◌, ◌++◌, length, take, Some, None, bit_xor, Ok}
 use Rattle.hashes.specs.Family.{Meaning, AtMost}
-use Rattle.hashes.specs.KeyFault.{taken}
 use Rattle.hashes.specs.Word.{Bytes}
 use Rattle.register.specs.declared.fault.RecordFault.{RecordFault}
 use Rattle.register.specs.Records.{Record, zone, message}
-use Rattle.register.specs.Book.{ZoneName, InRange, Refused, Accepted, Book, limit}
+use Rattle.register.specs.Book.{ZoneName, InRange, Refused, Accepted, BookRecords, limit}
 use Rattle.register.specs.Known.{refusal}
 use Rattle.register.specs.Run.{Input, Reply, Step, Run, step, run}
 use Rattle.register.specs.View.{View, standing, answer, after, sealed, key_of, pad_of, opening}
@@ -29,9 +28,9 @@ pub record RegisterFacts (M : Meaning) : Type 0 where
   pub runs_extend : (before : List Record) (inputs : List Input) (input : Input) →
       run before (inputs ++ (input ∷ [])) ≡ ((run before inputs).0 ++ ((step (run before inputs).1 input).0 ∷ []), (step (run before inputs).1 input).1)
   -- the records of a new register are a book's, and their message is within its limit
-  pub runs_book : (inputs : List Input) (replies : List Reply) (rs : List Record) → Run [] inputs replies rs → Book rs × (length (message rs) ≤ limit)
+  pub runs_book : (inputs : List Input) (replies : List Reply) (rs : List Record) → Run [] inputs replies rs → BookRecords rs × (length (message rs) ≤ limit)
   -- a register that opens has the key and the pad of the buffer, and took no record
-  pub opens_new : (buffer : List ℕ) (v : View M) → taken v ≡ opening M buffer → v ≡ standing M (key_of M buffer) (pad_of M buffer) []
+  pub opens_new : (buffer : List ℕ) (v : View M) → Ok v ≡ opening M buffer → v ≡ standing M (key_of M buffer) (pad_of M buffer) []
   -- a call on a register that took records is a step of a run
   pub calls_follow : (key : List ℕ) (pad : ℕ) (before : List Record) (input : Input) →
       (later : List Record) × Step before input (input_reply M (standing M key pad before) input) later
@@ -57,7 +56,7 @@ pub record RegisterFacts (M : Meaning) : Type 0 where
 
 pub record SealBounds (M : Meaning) : Type 0 where
   -- different records of two books: at most `bound` keys make their seals differ by d, whatever the pads
-  pub seals : (rs ss : List Record) (pad_r pad_s d : ℕ) → Book rs → Book ss → rs ≢ ss
+  pub seals : (rs ss : List Record) (pad_r pad_s d : ℕ) → BookRecords rs → BookRecords ss → rs ≢ ss
       → AtMost M (M.bound (max (length (message rs)) (length (message ss)))) (λ key. bit_xor (sealed M key pad_r rs) (sealed M key pad_s ss) ≡ d)
   -- different images: under at most `bound` keys the check passes both with the same pad bytes
   pub images : (i j pad : List ℕ) → Bytes i → Bytes j → i ≢ j

@@ -1,7 +1,7 @@
 -- What a register stands for, what a call on it answers, and what the call leaves.
 use Rattle.std.specs.Prelude.{◌≡◌, ℕ, ◌+◌, cond, List, [], length, take, drop, Some, None, Ok, Err, Option, Result, ◌==◌, bit_xor}
 use Rattle.hashes.specs.Family.{Meaning, absorbed, hash}
-use Rattle.hashes.specs.KeyFault.{Answer, refused, judged}
+use Rattle.hashes.specs.KeyFault.{Answer, judged}
 use Rattle.hashes.specs.Word.{word}
 use Rattle.register.specs.declared.fault.RecordFault.{RecordFault}
 use Rattle.register.specs.Records.{Record, field_of, bytes_of, field_length, message}
@@ -56,4 +56,4 @@ pad_of M buffer = word (drop M.key_len buffer)
 -- what opening a key buffer answers: a register that took no record, or the number of a refusal
 abbrev pub opening : (M : Meaning) → List ℕ → Answer (View M)
 opening M buffer =
-    cond (length buffer == M.key_len + 8) (judged (standing M (key_of M buffer) (pad_of M buffer) []) (M.refusal (key_of M buffer))) (refused 1)
+    cond (length buffer == M.key_len + 8) (judged (standing M (key_of M buffer) (pad_of M buffer) []) (M.refusal (key_of M buffer))) (Err 1)

@@ -1,6 +1,6 @@
 // Messages with known hashes, by each family, straight and through the gather, cut in two at every place.
-ghost use Rattle.hashes.specs.KeyFault.{hashing, opened, taken};
-ghost use Rattle.std.specs.Prelude.{◌≡◌, ◌++◌, Decides};
+ghost use Rattle.hashes.specs.KeyFault.{hashing, opened};
+ghost use Rattle.std.specs.Prelude.{◌≡◌, ◌++◌, Decides, Ok};
 
 use crate::buffers::{POLYNOMIAL, bytes_of};
 use crate::division::count_up;
@@ -34,7 +34,7 @@ fn hash_parts<F: Family>(key: &[u8], first: &[u8], second: &[u8]) -> Result<u64,
 
 // Whether the hash is the known one wherever the message is cut in two.
 fn at_every_cut<F: Family>(key: &[u8], message: &[u8], known: u64) -> bool
-    ensures { Decides result (hashing F.meaning key.now message.now ≡ taken known) }
+    ensures { Decides result (hashing F.meaning key.now message.now ≡ Ok known) }
 {
     (0..message.len() + 1).all(|cut| {
         let (first, second) = message.split_at(cut);

@@ -1,7 +1,7 @@
-use Rattle.std.proofs.Common.{map, ap, ◌∙◌, inl, inr, arith, take_all}
+use Rattle.std.proofs.Common.{map, Ok, ap, ◌∙◌, inl, inr, arith, take_all}
 use lib.ListN.{length-map}
 use lib.Seq.{map-set}
-use Rattle.hashes.specs.KeyFault.{answered, taken}
+use Rattle.hashes.specs.KeyFault.{answered}
 use Rattle.register.specs.View.{key_of, pad_of, seal, sealed}
 use Rattle.register.proofs.Checked.{opened_is}
 use Rattle.line_reader.specs.Calls.{line_reply}
@@ -33,7 +33,7 @@ returns g c =
     let end = c.loop-i.invariant (key_of M buffer) (pad_of M buffer) (opened_is M buffer _ opens) in
     record {
       seals =
-          ap taken (c.close.ensures ∙ ap (seal M) end.0 ∙ ap (λ cs. sealed M (key_of M buffer) (pad_of M buffer) (records_of cs)) all)
+          ap Ok (c.close.ensures ∙ ap (seal M) end.0 ∙ ap (λ cs. sealed M (key_of M buffer) (pad_of M buffer) (records_of cs)) all)
           ∙ ap (answered (λ _. sealed M (key_of M buffer) (pad_of M buffer) (records_of calls))) opens;
       replies =
           end.1 ∙ ap (λ cs. placed (replies_of cs) (map line_reply c.args.answers.now)) all

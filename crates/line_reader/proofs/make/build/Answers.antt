@@ -7,7 +7,7 @@ use Rattle.register.specs.View.{View, key_of, pad_of, seal, sealed}
 use Rattle.register.specs.Writing.{put}
 use Rattle.register.proofs.Checked.{opened_is}
 use Rattle.line_reader.specs.declared.fault.MakeFault.{MakeFault}
-use Rattle.line_reader.specs.Making.{Making, eight, unmade}
+use Rattle.line_reader.specs.Making.{Making, bytes_of_word, unmade}
 use Rattle.line_reader.specs.Sending.{wiped}
 use Rattle.line_reader.proofs.Makings.{making_fits, making_full, opened_made}
 use Rattle.line_reader.proofs.make.build.Goals as goal
@@ -64,9 +64,9 @@ returns-clause-makes g c =
     let b = c.to_be_bytes.result in
     let f : List ℕ = 0x53 ∷ 0 ∷ 9 ∷ c.code.result ∷ get_or b 0 0 ∷ get_or b 1 0 ∷ get_or b 2 0 ∷ get_or b 3 0 ∷ get_or b 4 0 ∷ get_or b 5 0 ∷ get_or b 6 0 ∷ get_or b 7 0 ∷ [] in
     let sealing : c.close.result ≡ sealed M (key_of M buffer) (pad_of M buffer) s.0 = c.close.ensures ∙ ap (seal M) s.2 in
-    let field : f ≡ bytes_of (seal_field M.code (eight (sealed M (key_of M buffer) (pad_of M buffer) s.0))) =
+    let field : f ≡ bytes_of (seal_field M.code (bytes_of_word (sealed M (key_of M buffer) (pad_of M buffer) s.0))) =
     rw (c.to_be_bytes.ensures, c.code.ensures, sealing) in
-    let putting : c.put_bytes.new.out ≡ put c.send_lines.new.out (length (message s.0)) (bytes_of (seal_field M.code (eight (sealed M (key_of M buffer) (pad_of M buffer) s.0)))) =
+    let putting : c.put_bytes.new.out ≡ put c.send_lines.new.out (length (message s.0)) (bytes_of (seal_field M.code (bytes_of_word (sealed M (key_of M buffer) (pad_of M buffer) s.0)))) =
     c.put_bytes.ensures ∙ ap₂ (λ (n : ℕ) (x : List ℕ). put c.send_lines.new.out n x) bytes field in
     ap (λ (n : ℕ). wiped (Ok (n + 12)) c.put_bytes.new.out) bytes
     ∙ making_fits M (key_of M buffer) (pad_of M buffer) room s.0 c.send_lines.new.out _ s.3
