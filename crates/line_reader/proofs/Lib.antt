@@ -6,6 +6,7 @@ pub mod Names
 pub mod Forms
 pub mod Escapes
 pub mod Judged
+pub mod Asked
 pub mod Fronts
 pub mod Decodings
 pub mod Progress

@@ -20,7 +20,7 @@ use Rattle.register.proofs.Bounds.{book_bytes}
 use Rattle.line_reader.specs.Making.{Sent, all_taken, stopped, sent}
 use Rattle.line_reader.specs.declared.family_code.FamilyCode.{FamilyCode}
 use Rattle.line_reader.specs.declared.family_code.FamilyCode.TheVariants.{Division, Toeplitz, Evaluation}
-use Rattle.line_reader.specs.FamilyCodes.{code_of_family, scheme_of_family}
+use Rattle.line_reader.specs.FamilyCodes.{code_of_family, family_answer, picked, scheme_of_family}
 use Rattle.line_reader.specs.SiteInput.{Scheme, SiteSeal, code_of, division_scheme, evaluation_scheme, input_limit, no_seal, scheme_by, scheme_of, seal_by, seal_by_scheme, seal_of_lines, seal_of_parts, site_seal, toeplitz_scheme, unless_refused_key}
 use Rattle.line_reader.specs.Texts.{lines_of}
 use Rattle.line_reader.proofs.Fronts.{rest_of}
@@ -128,12 +128,16 @@ seal_within input short o e =
     ap (λ (c : Option ℕ). seal_of_parts c (drop 1 input)) e
     ∙ ap (λ (b : Bool). cond b (seal_of_parts (code_of input) (drop 1 input)) (no_seal 5)) (sym (le-leb (length input) input_limit short))
 
+picks_own : (k code : ℕ) (b : Bool) → ◌≡◌ {A = Answer ℕ} (Ok k) (cond b (Ok code) (Err 4)) → k ≡ code
+picks_own k code true e = cc
+picks_own k code false e = let z : ◌≡◌ {A = ℕ} 0 1 = cc in absurd (omega arith)
+
 -- whose code picks a family
-pub seal_by_code : (input : List ℕ) (code : ℕ) (family : FamilyCode) (answer : SiteSeal) → length input ≤ input_limit → Bytes input → Some code ≡ code_of input → code_of_family family ≡ code
+pub seal_by_code : (input : List ℕ) (code : ℕ) (family : FamilyCode) (answer : SiteSeal) → length input ≤ input_limit → Bytes input → Some code ≡ code_of input → family_answer (Ok family) ≡ picked code
     → (Bytes (rest_of input) → answer ≡ seal_by_scheme (scheme_of_family family) (rest_of input)) → answer ≡ site_seal input
 seal_by_code input code family answer short bytes first picks h =
     let rest : rest_of input ≡ drop 1 input = between_to_end input 1 (length input) (omega arith) in
     h (subst Bytes (sym rest) (All-drop (λ (b : ℕ). b < 256) 1 input bytes))
     ∙ ap (seal_by_scheme (scheme_of_family family)) rest
-    ∙ ap (λ (o : Option Scheme). seal_by o (drop 1 input)) (sym (family_picks family code picks))
+    ∙ ap (λ (o : Option Scheme). seal_by o (drop 1 input)) (sym (family_picks family code (picks_own _ code _ picks)))
     ∙ seal_within input short (Some code) first

@@ -1,5 +1,5 @@
 -- What a call asks of a register, and a line's answer by its number and column.
-use Rattle.std.specs.Prelude.{ℕ, List, Ok, Err, Result}
+use Rattle.std.specs.Prelude.{◌≡◌, ℕ, ◌↔◌, List, Ok, Err, Result}
 use Rattle.register.specs.Faults.{number_of_record_fault}
 use Rattle.register.specs.Records as records
 use Rattle.register.specs.Run.{Input, a_record, no_record, unread, Reply, taken, refused}
@@ -8,8 +8,9 @@ use Rattle.line_reader.specs.declared.calls.Call.TheVariants.{Line, Zone, Point,
 use Rattle.line_reader.specs.declared.fault.LineFault.{LineFault}
 use Rattle.line_reader.specs.declared.fault.LineFault.TheVariants.{Read, Record}
 use Rattle.line_reader.specs.declared.fault.ReadFault.{ReadFault}
+use Rattle.line_reader.specs.declared.kind.Kind.{Kind}
 use Rattle.line_reader.specs.Codes.{number_of_kind, number_of_read_fault}
-use Rattle.line_reader.specs.Grammar.{Sentence, nothing, zone, point, rule}
+use Rattle.line_reader.specs.Grammar.{Faulty, Name, Sentence, Spells, nothing, zone, point, rule}
 use Rattle.line_reader.specs.Reading.{decoded, reading}
 
 -- what a sentence asks for: the record that it spells, with a zone's name decoded, or nothing
@@ -19,13 +20,25 @@ sentence_input (zone n name) = a_record (records.zone n (decoded name))
 sentence_input (point n z k) = a_record (records.point n z (number_of_kind k))
 sentence_input (rule z n) = a_record (records.rule z n)
 
-abbrev pub reading_input : Result Sentence (ReadFault × ℕ) → Input
+abbrev pub reading_input : Result Sentence (ℕ × ℕ) → Input
 reading_input (Ok s) = sentence_input s
-reading_input (Err e) = unread (number_of_read_fault e.0) e.1
+reading_input (Err e) = unread e.0 e.1
 
 -- what a line asks for
 abbrev pub line_input : List ℕ → Input
 line_input line = reading_input (reading line)
+
+-- What a line asks for, by the grammar: the record that it spells, nothing, or its fault's number and column.
+pub data Asks (line : List ℕ) : Input → Type 0 where
+  asks_nothing : Spells line nothing → Asks line no_record
+  asks_zone : {n : ℕ} {w v : List ℕ} → Spells line (zone n w) → Name w v → Asks line (a_record (records.zone n v))
+  asks_point : {n z : ℕ} {k : Kind} → Spells line (point n z k) → Asks line (a_record (records.point n z (number_of_kind k)))
+  asks_rule : {z n : ℕ} → Spells line (rule z n) → Asks line (a_record (records.rule z n))
+  asks_amiss : {f : ReadFault} {c : ℕ} → Faulty line f c → Asks line (unread (number_of_read_fault f) c)
+
+-- the function gives what the grammar says, and nothing else
+abbrev pub LinesExact : Type 0
+LinesExact = (line : List ℕ) (input : Input) → (line_input line ≡ input) ↔ Asks line input
 
 -- what a call asks for
 abbrev pub call_input : Call → Input

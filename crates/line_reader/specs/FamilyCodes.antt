@@ -1,9 +1,10 @@
 -- The codes of the families.
-use Rattle.std.specs.Prelude.{◌≡◌, ℕ, ◌≢◌, Result, MatchResult}
+use Rattle.std.specs.Prelude.{◌≡◌, ℕ, cond, ◌||◌, Ok, Err, Result, ◌==◌}
+use Rattle.hashes.specs.KeyFault.{Answer}
 use Rattle.line_reader.specs.declared.family_code.FamilyCode.{FamilyCode}
 use Rattle.line_reader.specs.declared.family_code.FamilyCode.TheVariants.{Division, Toeplitz, Evaluation}
 use Rattle.line_reader.specs.declared.fault.InputFault.{InputFault}
-use Rattle.line_reader.specs.declared.fault.InputFault.TheVariants.{Code}
+use Rattle.line_reader.specs.InputFaults.{number_of_input_fault}
 use Rattle.line_reader.specs.SiteInput.{Scheme, division_scheme, evaluation_scheme, toeplitz_scheme}
 
 abbrev pub code_of_family : FamilyCode → ℕ
@@ -17,6 +18,14 @@ scheme_of_family Division = division_scheme
 scheme_of_family Toeplitz = toeplitz_scheme
 scheme_of_family Evaluation = evaluation_scheme
 
--- the result is the family with this code, or the fault of a code that no family has
+-- the codes of families; any other byte is refused by 4
+abbrev pub picked : ℕ → Answer ℕ
+picked code = cond (code == 1 || (code == 2 || code == 3)) (Ok code) (Err 4)
+
+-- an answer of the code by its number
+abbrev pub family_answer : Result FamilyCode InputFault → Answer ℕ
+family_answer (Ok family) = Ok (code_of_family family)
+family_answer (Err fault) = Err (number_of_input_fault fault)
+
 abbrev pub Decodes : ℕ → Result FamilyCode InputFault → Type 0
-Decodes code r = MatchResult r (λ family. code_of_family family ≡ code) (λ fault. (fault ≡ Code) × (code ≢ 1) × (code ≢ 2) × (code ≢ 3))
+Decodes code result = family_answer result ≡ picked code

@@ -7,6 +7,7 @@ use Rattle.line_reader.specs.declared.kind.Kind.{Kind}
 use Rattle.line_reader.specs.declared.kind.Kind.TheVariants.{Smoke, Heat, Call, Sounder}
 use Rattle.line_reader.specs.declared.line.Line.{Line}
 use Rattle.line_reader.specs.declared.line.Line.TheVariants.{Blank, Zone, Point, Rule}
+use Rattle.line_reader.specs.Codes.{number_of_read_fault}
 use Rattle.line_reader.specs.Grammar.{digit, leads, plain, unescaped, spelling, Sentence, nothing, zone, point, rule}
 
 -- what a stage leaves of a text, and its answer
@@ -122,13 +123,13 @@ abbrev pub read_whole : List ℕ → Stage Sentence
 read_whole text = and_then (read_form text) (λ s t. and_then (read_end t) (λ _ t. (t, Ok s)))
 
 -- the answer on a line of which a stage leaves t
-abbrev pub with_column : List ℕ → Stage Sentence → Result Sentence (ReadFault × ℕ)
-with_column line (t, Ok s) = Ok s
-with_column line (t, Err f) = Err (f, length line - length t)
+abbrev pub reading_by : List ℕ → Stage Sentence → Result Sentence (ℕ × ℕ)
+reading_by line (t, Ok s) = Ok s
+reading_by line (t, Err f) = Err (number_of_read_fault f, length line - length t)
 
--- what a line says, or its fault and column
-abbrev pub reading : List ℕ → Result Sentence (ReadFault × ℕ)
-reading line = with_column line (read_whole line)
+-- what a line says, or its fault's number and column
+abbrev pub reading : List ℕ → Result Sentence (ℕ × ℕ)
+reading line = reading_by line (read_whole line)
 
 -- what a line as read says
 abbrev pub said : Line → Sentence
@@ -137,9 +138,14 @@ said (Zone n name) = zone n name.now
 said (Point n z k) = point n z k
 said (Rule z n) = rule z n
 
-abbrev pub told : {E : Type 0} → Result Line E → Result Sentence E
+abbrev pub told : Result Line ReadFault → Result Sentence ReadFault
 told (Ok l) = Ok (said l)
 told (Err f) = Err f
+
+-- an answer of the code by its number and column
+abbrev pub reading_of : Result Line (ReadFault × ℕ) → Result Sentence (ℕ × ℕ)
+reading_of (Ok l) = Ok (said l)
+reading_of (Err e) = Err (number_of_read_fault e.0, e.1)
 
 -- what a name as read holds
 abbrev pub held : {E : Type 0} → Result (Bor (List ℕ)) E → Result (List ℕ) E

@@ -1,10 +1,10 @@
 // The calls of a register, one of them a line of text, which makes the call that it spells.
-ghost use Rattle.line_reader.specs.Calls.{line_input, line_reply, sentence_input};
+ghost use Rattle.line_reader.specs.Calls.{LinesExact, line_input, line_reply, sentence_input};
 ghost use Rattle.line_reader.specs.Reading.{decoded, said};
-ghost use Rattle.register.specs.Inputs.{input_after, input_output, input_reply, reply_of};
+ghost use Rattle.register.specs.Inputs.{input_after, input_output, input_reply};
 ghost use Rattle.register.specs.Records.{Record};
 ghost use Rattle.register.specs.Values.{view};
-ghost use Rattle.register.specs.View.{Keeps, after, answer};
+ghost use Rattle.register.specs.View.{Keeps, after, reply, reply_of};
 ghost use Rattle.register.specs.Writing.{output_after};
 ghost use Rattle.std.specs.Prelude.{◌≡◌};
 
@@ -39,7 +39,7 @@ fn named_zone<F: Family>(
     name: &[u8],
     out: &mut [u8],
 ) -> Result<usize, RecordFault>
-    ensures answers { result ≡ answer F.meaning (view F.meaning F.state register.old) (Record.zone number (decoded name.now)) }
+    ensures answers { reply_of result ≡ reply F.meaning (view F.meaning F.state register.old) (Record.zone number (decoded name.now)) }
     ensures leaves { view F.meaning F.state register.new ≡ after F.meaning (view F.meaning F.state register.old) (Record.zone number (decoded name.now)) }
     ensures writes { out.new ≡ output_after F.meaning (view F.meaning F.state register.old) (Record.zone number (decoded name.now)) out.old }
     ensures keeps { Keeps result register.old register.new }
@@ -97,6 +97,7 @@ pub fn line<F: Family>(register: &mut Register<F>, line: &[u8]) -> Result<usize,
     ensures answers { line_reply result ≡ input_reply F.meaning (view F.meaning F.state register.old) (line_input line.now) }
     ensures leaves { view F.meaning F.state register.new ≡ input_after F.meaning (view F.meaning F.state register.old) (line_input line.now) }
     ensures keeps { Keeps result register.old register.new }
+    ensures exact { LinesExact }
 {
     line_into(register, line, &mut [])
 }

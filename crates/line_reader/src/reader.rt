@@ -1,7 +1,7 @@
 // Reading one line, and decoding a name as it is written.
 ghost use Rattle.std.specs.Prelude.{◌≡◌, min, ◌++◌, length, take, drop};
 ghost use Rattle.line_reader.specs.Exact.{NamesDecoded, ReadingsExact};
-ghost use Rattle.line_reader.specs.Reading.{decoded, reading, told};
+ghost use Rattle.line_reader.specs.Reading.{decoded, reading, reading_of};
 ghost use Rattle.line_reader.specs.Worked.{WorkedLines};
 
 use crate::cursor::Cursor;
@@ -11,7 +11,7 @@ use crate::line::Line;
 // What a line says, or its fault and the column where it is. Inlined as the stages are: the answer stays in registers too.
 #[inline(always)]
 pub fn read_line<'a>(line: &'a [u8]) -> Result<Line<'a>, (ReadFault, usize)>
-    ensures reads { told result ≡ reading line.now }
+    ensures reads { reading_of result ≡ reading line.now }
     ensures exact { ReadingsExact }
     ensures worked { WorkedLines }
 {

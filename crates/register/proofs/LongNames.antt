@@ -6,7 +6,7 @@ use Rattle.register.specs.declared.fault.RecordFault.{RecordFault}
 use Rattle.register.specs.declared.fault.RecordFault.TheVariants.{Range, Name}
 use Rattle.register.specs.Records.{zone}
 use Rattle.register.specs.Known.{Known, within, zone_name, refusal_by}
-use Rattle.register.specs.View.{View, answer, answer_by, after, after_by}
+use Rattle.register.specs.View.{View, reply, reply_by, after, after_by}
 use Rattle.register.specs.Writing.{output_after, output_by}
 
 -- a name of more than 40 bytes is none
@@ -35,10 +35,10 @@ module _ {A : Type 0} (by : List ℕ → Option RecordFault → A) (refuses : (x
           ap (by (take 41 name)) (long_row known n (take 41 name) shortly) ∙ any_name (take 41 name) name (not (within 1 250 n)) ∙ ap (by name) (sym (long_row known n name longly))
 
 pub long_name : (M : Meaning) (v : View M) (n : ℕ) (name out : List ℕ) →
-    (answer M v (zone n (take 41 name)) ≡ answer M v (zone n name)) × (after M v (zone n (take 41 name)) ≡ after M v (zone n name))
+    (reply M v (zone n (take 41 name)) ≡ reply M v (zone n name)) × (after M v (zone n (take 41 name)) ≡ after M v (zone n name))
     × (output_after M v (zone n (take 41 name)) out ≡ output_after M v (zone n name) out)
 long_name M v n name out = (
-  cut_name (λ t o. answer_by v.known (zone n t) o) (λ xs ys f. refl) v.known n name,
+  cut_name (λ t o. reply_by v.known (zone n t) o) (λ xs ys f. refl) v.known n name,
   cut_name (λ t o. after_by M v (zone n t) o) (λ xs ys f. refl) v.known n name,
   cut_name (λ t o. output_by v.known (zone n t) out o) (λ xs ys f. refl) v.known n name,
 )

@@ -1,13 +1,14 @@
 -- A call on a register that took records is a step of a run.
-use Rattle.std.proofs.Common.{◌≡◌, ℕ, List, [], ◌∷◌, ◌++◌, Some, None, Ok, Err, Option, sym, refl, ap, ◌∙◌, subst, ap₂, append-nil}
+use Rattle.std.proofs.Common.{◌≡◌, ℕ, List, [], ◌∷◌, ◌++◌, Some, None, Option, sym, refl, ap, ◌∙◌, subst, ap₂, append-nil}
 use Rattle.hashes.proofs.Absorbed.{absorbed_append}
 use Rattle.hashes.specs.Family.{Meaning, absorbed}
 use Rattle.register.specs.declared.fault.RecordFault.{RecordFault}
+use Rattle.register.specs.Faults.{number_of_record_fault}
 use Rattle.register.specs.Records.{Record, field_of, bytes_of, message}
 use Rattle.register.specs.Known.{Known, known_of, refusal}
-use Rattle.register.specs.Run.{Input, a_record, no_record, unread, taken, Step, step, step_by}
-use Rattle.register.specs.View.{View, standing, answer, answer_by, after, after_by}
-use Rattle.register.specs.Inputs.{reply_of, input_reply, input_after}
+use Rattle.register.specs.Run.{Input, a_record, no_record, unread, taken, refused, Step, step, step_by}
+use Rattle.register.specs.View.{View, standing, reply, reply_by, after, after_by}
+use Rattle.register.specs.Inputs.{input_reply, input_after}
 use Rattle.register.proofs.Books.{known_push}
 use Rattle.register.proofs.Encoding.{message_append, message_more}
 use Rattle.register.proofs.Runs.{step_sound}
@@ -15,12 +16,13 @@ use Rattle.register.proofs.Runs.{step_sound}
 pub message_push : (rs : List Record) (r : Record) → message (rs ++ (r ∷ [])) ≡ message rs ++ bytes_of (field_of r)
 message_push rs r = message_append rs (r ∷ []) ∙ ap (λ m. message rs ++ m) (append-nil (bytes_of (field_of r)))
 
--- an answer by its row
-refused_row : (known : Known) (r : Record) (f : RecordFault) (o : Option RecordFault) → Err f ≡ answer_by known r o → o ≡ Some f
-refused_row known r f None e = absurd cc
-refused_row known r f (Some g) e = cc
+-- a reply by its row
+refused_row : (known : Known) (r : Record) (k c : ℕ) (o : Option RecordFault) → refused k c ≡ reply_by known r o
+    → (f : RecordFault) × (o ≡ Some f) × (k ≡ number_of_record_fault f)
+refused_row known r k c None e = absurd cc
+refused_row known r k c (Some f) e = (f, refl, cc)
 
-taken_row : (known : Known) (r : Record) (n : ℕ) (o : Option RecordFault) → Ok n ≡ answer_by known r o → o ≡ None
+taken_row : (known : Known) (r : Record) (n : ℕ) (o : Option RecordFault) → taken n ≡ reply_by known r o → o ≡ None
 taken_row known r n None e = refl
 taken_row known r n (Some g) e = absurd cc
 
@@ -32,15 +34,15 @@ module _ (M : Meaning) (key : List ℕ) (pad : ℕ) (rs : List Record) where
 
   -- a call that was refused, and one that was taken
   module _ (r : Record) (v : View M) (stands : v ≡ standing M key pad rs) where
-    pub call_refused : (f : RecordFault) → Err f ≡ answer M v r → refusal rs r ≡ Some f
-    call_refused f a = refused_row (known_of rs) r f (refusal rs r) (a ∙ ap (λ (u : View M). answer M u r) stands)
+    pub call_refused : (k c : ℕ) → refused k c ≡ reply M v r → (f : RecordFault) × (refusal rs r ≡ Some f) × (k ≡ number_of_record_fault f)
+    call_refused k c a = refused_row (known_of rs) r k c (refusal rs r) (a ∙ ap (λ (u : View M). reply M u r) stands)
 
-    pub call_taken : (n : ℕ) (w : View M) → Ok n ≡ answer M v r → w ≡ after M v r → (refusal rs r ≡ None) × (w ≡ standing M key pad (rs ++ (r ∷ [])))
+    pub call_taken : (n : ℕ) (w : View M) → taken n ≡ reply M v r → w ≡ after M v r → (refusal rs r ≡ None) × (w ≡ standing M key pad (rs ++ (r ∷ [])))
     call_taken n w a l =
-        let none = taken_row (known_of rs) r n (refusal rs r) (a ∙ ap (λ (u : View M). answer M u r) stands) in
+        let none = taken_row (known_of rs) r n (refusal rs r) (a ∙ ap (λ (u : View M). reply M u r) stands) in
         (none, l ∙ ap (λ (u : View M). after M u r) stands ∙ ap (after_by M (standing M key pad rs) r) none ∙ standing_push r)
 
-  reply_step : (r : Record) (o : Option RecordFault) → reply_of (answer_by (known_of rs) r o) ≡ (step_by rs r o).0
+  reply_step : (r : Record) (o : Option RecordFault) → reply_by (known_of rs) r o ≡ (step_by rs r o).0
   reply_step r None = ap taken (sym (message_more rs r))
   reply_step r (Some f) = refl
 

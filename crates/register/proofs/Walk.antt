@@ -7,10 +7,12 @@ use Rattle.register.specs.declared.fault.ImageFault.{ImageFault}
 use Rattle.register.specs.declared.fault.ImageFault.TheVariants.{Record as FaultyRecord, Framing, Code}
 use Rattle.register.specs.Records.{Record, Field, field, bytes_of}
 use Rattle.register.specs.Fields.{is_record, record_in, next_field, is_seal}
+use Rattle.register.specs.Faults.{number_of_record_fault}
 use Rattle.register.specs.Known.{refusal}
+use Rattle.register.specs.Run.{taken, refused}
 use Rattle.register.specs.Image.{Outcome, compares, faulty, seal_outcome, record_outcome, field_outcome, check_from, check}
 use Rattle.register.specs.Reading.{Place, ReadsNext, first_place, place_at, seal_in, value_in}
-use Rattle.register.specs.View.{View, standing, answer, after}
+use Rattle.register.specs.View.{View, standing, reply, after}
 use Rattle.register.specs.Walking.{Answers, seal_field_answer}
 use Rattle.register.proofs.Firsts.{None_Some, Some_inj}
 use Rattle.register.proofs.Images.{decides_seal}
@@ -144,16 +146,16 @@ module _ (image : List ℕ) (at : ℕ) (f : Place) (given : Gives image at f) wh
 
     -- the register refuses the record
     pub walk_refused : is_record (field f.tag (value_in image f)) ≡ true → (r : Record) → r ≡ record_in (field f.tag (value_in image f)) →
-        (u : View M) (x : RecordFault) → Err x ≡ answer M v r → Answers M key pad (check M.code image) (Err (FaultyRecord x, at)) u
+        (u : View M) (x : RecordFault) → refused (number_of_record_fault x) 0 ≡ reply M v r → Answers M key pad (check M.code image) (Err (FaultyRecord x, at)) u
     unfolding value
     walk_refused q r s u x h =
-        let row = call_refused M key pad w.before r v w.stands x h in
+        let row = call_refused M key pad w.before r v w.stands (number_of_record_fault x) 0 h in
         let st = record_step q r s in
-        subst (λ o. Answers M key pad o (Err (FaultyRecord x, at)) u) (sym (st.2 ∙ ap (record_outcome at _) row)) (refl, refl)
+        subst (λ o. Answers M key pad o (Err (FaultyRecord x, at)) u) (sym (st.2 ∙ ap (record_outcome at _) row.1)) (row.2, refl)
 
     -- the register takes it
     pub walk_taken : is_record (field f.tag (value_in image f)) ≡ true → (r : Record) → r ≡ record_in (field f.tag (value_in image f)) →
-        (u : View M) (n : ℕ) → Ok n ≡ answer M v r → u ≡ after M v r → Walked M key pad image u (f.place + f.length)
+        (u : View M) (n : ℕ) → taken n ≡ reply M v r → u ≡ after M v r → Walked M key pad image u (f.place + f.length)
     unfolding value
     walk_taken q r s u n h k =
         let t = call_taken M key pad w.before r v w.stands n u h k in

@@ -7,7 +7,7 @@ use Rattle.register.specs.Records.{Record, zone, message}
 use Rattle.register.specs.Book.{ZoneName, InRange, Refused, Accepted, BookRecords, limit}
 use Rattle.register.specs.Known.{refusal}
 use Rattle.register.specs.Run.{Input, Reply, Step, Run, step, run}
-use Rattle.register.specs.View.{View, standing, answer, after, sealed, key_of, pad_of, opening}
+use Rattle.register.specs.View.{View, standing, reply, after, sealed, key_of, pad_of, opening}
 use Rattle.register.specs.Writing.{put, filled_up, Holds, output_after}
 use Rattle.register.specs.Inputs.{input_reply, input_after, input_output}
 use Rattle.register.specs.Image.{Unframed, FramingFault, Outcome, Checks, check}
@@ -51,7 +51,7 @@ pub record RegisterFacts (M : Meaning) : Type 0 where
   pub message_whole : (image : List ℕ) → Bytes image → ((m : List ℕ) → ¬ BeforeSeal image m) → message_of image ≡ image
   -- of a name the first 41 bytes decide what a call with it does
   pub long_name : (v : View M) (n : ℕ) (name out : List ℕ) →
-      (answer M v (zone n (take 41 name)) ≡ answer M v (zone n name)) × (after M v (zone n (take 41 name)) ≡ after M v (zone n name))
+      (reply M v (zone n (take 41 name)) ≡ reply M v (zone n name)) × (after M v (zone n (take 41 name)) ≡ after M v (zone n name))
       × (output_after M v (zone n (take 41 name)) out ≡ output_after M v (zone n name) out)
 
 pub record SealBounds (M : Meaning) : Type 0 where

@@ -1,19 +1,12 @@
 -- What a register replies to an input of a run, and what it leaves.
-use Rattle.std.specs.Prelude.{ℕ, List, Ok, Err, Result}
+use Rattle.std.specs.Prelude.{ℕ, List}
 use Rattle.hashes.specs.Family.{Meaning}
-use Rattle.register.specs.declared.fault.RecordFault.{RecordFault}
-use Rattle.register.specs.Faults.{number_of_record_fault}
 use Rattle.register.specs.Run.{Input, a_record, no_record, unread, Reply, taken, refused}
-use Rattle.register.specs.View.{View, answer, after}
+use Rattle.register.specs.View.{View, after, reply}
 use Rattle.register.specs.Writing.{output_after}
 
--- an answer by its number; the column is 0
-abbrev pub reply_of : Result ℕ RecordFault → Reply
-reply_of (Ok n) = taken n
-reply_of (Err f) = refused (number_of_record_fault f) 0
-
 abbrev pub input_reply : (M : Meaning) → View M → Input → Reply
-input_reply M v (a_record r) = reply_of (answer M v r)
+input_reply M v (a_record r) = reply M v r
 input_reply M v no_record = taken v.known.bytes
 input_reply M v (unread n column) = refused n column
 

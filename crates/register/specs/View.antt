@@ -4,7 +4,9 @@ use Rattle.hashes.specs.Family.{Meaning, absorbed, hash}
 use Rattle.hashes.specs.KeyFault.{Answer, judged}
 use Rattle.hashes.specs.Word.{word}
 use Rattle.register.specs.declared.fault.RecordFault.{RecordFault}
+use Rattle.register.specs.Faults.{number_of_record_fault}
 use Rattle.register.specs.Records.{Record, field_of, bytes_of, field_length, message}
+use Rattle.register.specs.Run.{Reply, taken, refused}
 use Rattle.register.specs.Known.{Known, known_of, with_record, refusal_by}
 
 -- The state of the family, the pad, and what is known of the records taken.
@@ -17,13 +19,18 @@ pub record View (M : Meaning) : Type 0 where
 abbrev pub standing : (M : Meaning) → List ℕ → ℕ → List Record → View M
 standing M key pad rs = record { state = absorbed M (M.first key) (message rs); pad = pad; known = known_of rs }
 
--- what a call with a record answers: the length of the message after it, or the fault
-abbrev pub answer_by : Known → Record → Option RecordFault → Result ℕ RecordFault
-answer_by known r None = Ok (known.bytes + field_length r)
-answer_by known r (Some f) = Err f
+-- an answer of the code by its number; the column is 0
+abbrev pub reply_of : Result ℕ RecordFault → Reply
+reply_of (Ok n) = taken n
+reply_of (Err f) = refused (number_of_record_fault f) 0
 
-abbrev pub answer : (M : Meaning) → View M → Record → Result ℕ RecordFault
-answer M v r = answer_by v.known r (refusal_by v.known r)
+-- what a call with a record answers: the length of the message after it, or the fault's number
+abbrev pub reply_by : Known → Record → Option RecordFault → Reply
+reply_by known r None = taken (known.bytes + field_length r)
+reply_by known r (Some f) = refused (number_of_record_fault f) 0
+
+abbrev pub reply : (M : Meaning) → View M → Record → Reply
+reply M v r = reply_by v.known r (refusal_by v.known r)
 
 -- what it leaves: the record's field is hashed and the record is in the book, or all is as it was
 abbrev pub after_by : (M : Meaning) → View M → Record → Option RecordFault → View M

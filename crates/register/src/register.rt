@@ -2,7 +2,7 @@
 ghost use Rattle.hashes.specs.KeyFault.{opened};
 ghost use Rattle.register.specs.Records.{Record};
 ghost use Rattle.register.specs.Values.{record_of, view};
-ghost use Rattle.register.specs.View.{Keeps, after, answer, opening, seal};
+ghost use Rattle.register.specs.View.{Keeps, after, opening, reply, reply_of, seal};
 ghost use Rattle.register.specs.Writing.{output_after};
 ghost use Rattle.std.specs.Prelude.{◌≡◌, length, replicate};
 
@@ -81,7 +81,7 @@ impl<F: Family> Register<F> {
     // Inlined, as `send` is: a record, and the result, are then handed on in registers, which saves a third of the time of a check.
     #[inline(always)]
     pub fn apply_into(&mut self, record: SiteRecord, out: &mut [u8]) -> Result<usize, RecordFault>
-        ensures answers { result ≡ answer F.meaning (view F.meaning F.state self.old) (record_of «record».entry) }
+        ensures answers { reply_of result ≡ reply F.meaning (view F.meaning F.state self.old) (record_of «record».entry) }
         ensures leaves { view F.meaning F.state self.new ≡ after F.meaning (view F.meaning F.state self.old) (record_of «record».entry) }
         ensures writes { out.new ≡ output_after F.meaning (view F.meaning F.state self.old) (record_of «record».entry) out.old }
         ensures keeps { Keeps result self.old self.new }
@@ -95,7 +95,7 @@ impl<F: Family> Register<F> {
 
     // Takes a record.
     pub fn apply(&mut self, record: SiteRecord) -> Result<usize, RecordFault>
-        ensures answers { result ≡ answer F.meaning (view F.meaning F.state self.old) (record_of «record».entry) }
+        ensures answers { reply_of result ≡ reply F.meaning (view F.meaning F.state self.old) (record_of «record».entry) }
         ensures leaves { view F.meaning F.state self.new ≡ after F.meaning (view F.meaning F.state self.old) (record_of «record».entry) }
         ensures keeps { Keeps result self.old self.new }
     {
@@ -104,7 +104,7 @@ impl<F: Family> Register<F> {
 
     // Declares a zone.
     pub fn zone(&mut self, number: u32, name: &[u8]) -> Result<usize, RecordFault>
-        ensures answers { result ≡ answer F.meaning (view F.meaning F.state self.old) (Record.zone number name.now) }
+        ensures answers { reply_of result ≡ reply F.meaning (view F.meaning F.state self.old) (Record.zone number name.now) }
         ensures leaves { view F.meaning F.state self.new ≡ after F.meaning (view F.meaning F.state self.old) (Record.zone number name.now) }
         ensures keeps { Keeps result self.old self.new }
     {
@@ -113,7 +113,7 @@ impl<F: Family> Register<F> {
 
     // Declares a point. Its kind is a byte, as in a record.
     pub fn point(&mut self, number: u32, zone: u32, kind: u8) -> Result<usize, RecordFault>
-        ensures answers { result ≡ answer F.meaning (view F.meaning F.state self.old) (Record.point number zone kind) }
+        ensures answers { reply_of result ≡ reply F.meaning (view F.meaning F.state self.old) (Record.point number zone kind) }
         ensures leaves { view F.meaning F.state self.new ≡ after F.meaning (view F.meaning F.state self.old) (Record.point number zone kind) }
         ensures keeps { Keeps result self.old self.new }
     {
@@ -122,7 +122,7 @@ impl<F: Family> Register<F> {
 
     // Adds a rule: an alarm in the zone drives the point.
     pub fn rule(&mut self, zone: u32, point: u32) -> Result<usize, RecordFault>
-        ensures answers { result ≡ answer F.meaning (view F.meaning F.state self.old) (Record.rule zone point) }
+        ensures answers { reply_of result ≡ reply F.meaning (view F.meaning F.state self.old) (Record.rule zone point) }
         ensures leaves { view F.meaning F.state self.new ≡ after F.meaning (view F.meaning F.state self.old) (Record.rule zone point) }
         ensures keeps { Keeps result self.old self.new }
     {

@@ -1,8 +1,9 @@
-use Rattle.std.proofs.Common.{◌≡◌, ℕ, List, None, sym, ◌∙◌, of_calls}
+use Rattle.std.proofs.Common.{◌≡◌, ℕ, List, None, sym, ap, ◌∙◌, of_calls}
 use Rattle.std.proofs.lemmas.Result.{err_from_is_err_and}
 use Rattle.register.specs.declared.fault.ImageFault.TheVariants.{Record as FaultyRecord}
 use Rattle.register.specs.Reading.{place_at, place_of}
 use Rattle.register.specs.Values.{record_of, view}
+use Rattle.register.specs.View.{reply_of}
 use Rattle.register.proofs.Results.{mapped_err, mapped_ok}
 use Rattle.register.proofs.Walk.{gives, next_start, walk_ends, walk_refused, walk_seal, walk_taken}
 use Rattle.register.proofs.check.read_records.Goals as goal
@@ -34,7 +35,7 @@ returns-in_err-map_err g c = record {
       let fault = mapped_err _ c.apply.result c.map_err.result c.in_err-map_err.field-0.0 c.map_err.ensures.cases c.in_err-map_err.was in
       let same : c.in_err-map_err.field-0.0 ≡ (FaultyRecord fault.0, l.at) = search of_calls in
       rw (out.1, out.2, same)
-      (walk_refused image l.at f given M key pad v (l.invariant.walked key pad s) r.0 (record_of c.in-Some-record_in.record) r.1 _ fault.0 (fault.1 ∙ c.apply.ensures.answers));
+      (walk_refused image l.at f given M key pad v (l.invariant.walked key pad s) r.0 (record_of c.in-Some-record_in.record) r.1 _ fault.0 (ap reply_of fault.1 ∙ c.apply.ensures.answers));
 }
 
 pub loop-field-preserved : goal.loop-field-preserved
@@ -49,7 +50,7 @@ loop-field-preserved g c =
     record {
       same = c.in-Some.ensures.steps.holds ∙ l.invariant.same;
       here = c.in-Some.ensures.steps.moves ∙ sym c.end-at.ensures;
-      walked = λ key pad s. rw c.end-at.ensures (walk_taken image l.at f given M key pad v (l.invariant.walked key pad s) r.0 (record_of c.in-Some-record_in.record) r.1 _ _ (mapped_ok _ c.apply.result c.map_err.result c.in_ok-map_err.field-0 c.map_err.ensures.cases c.in_ok-map_err.was ∙ c.apply.ensures.answers) c.apply.ensures.leaves);
+      walked = λ key pad s. rw c.end-at.ensures (walk_taken image l.at f given M key pad v (l.invariant.walked key pad s) r.0 (record_of c.in-Some-record_in.record) r.1 _ _ (ap reply_of (mapped_ok _ c.apply.result c.map_err.result c.in_ok-map_err.field-0 c.map_err.ensures.cases c.in_ok-map_err.was) ∙ c.apply.ensures.answers) c.apply.ensures.leaves);
     }
 
 pub returns : goal.returns
