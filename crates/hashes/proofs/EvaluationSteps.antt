@@ -10,12 +10,12 @@ use Rattle.hashes.specs.Evaluation.{evaluation_state, evaluation_family, evaluat
 use Rattle.hashes.specs.Family.{absorbed}
 use Rattle.hashes.specs.Polynomial.{degree, remainder, times, times_mod}
 use Rattle.hashes.specs.Word.{word}
-use Rattle.hashes.proofs.Multiples.{multiple_one, multiple_up}
+use Rattle.hashes.proofs.Multiples.{half_byte_up, multiple_one, multiple_up}
 use Rattle.hashes.specs.Divisors.{irreducible_pos}
 use Rattle.hashes.specs.FieldLemmas.{mod_assoc, mod_comm, mod_rem_l, mod_xor_l, mod_xor_r, mod_zero_l}
 use Rattle.hashes.specs.Modulus.{modulus_degree, modulus_irreducible}
-use Rattle.hashes.specs.Remainder.{remainder_small, remainder_xor}
-use Rattle.hashes.specs.Times.{times_comm, times_one_r, times_xor_r}
+use Rattle.hashes.specs.Remainder.{remainder_small}
+use Rattle.hashes.specs.Times.{times_one_r, times_xor_r}
 use Rattle.hashes.specs.Words.{division_word, times_shl}
 use Rattle.hashes.specs.Xor.{xor_shl, xor_swap}
 use Rattle.std.proofs.lemmas.Bool.{eq-eqb, ne_eqb}
@@ -40,7 +40,7 @@ abbrev pub Power : ℕ → ℕ → ℕ → Type 0
 Power a j b = b ≡ times_mod modulus (2 ^ (8 * j)) a
 
 pub first_power : (a : ℕ) → a < 2 ^ 64 → Power a 0 a
-first_power a h = multiple_one 0x1B a (omega arith) h
+first_power a h = multiple_one 64 0x1B a (omega arith) h
 
 eight_more : (j : ℕ) → 2 ^ (8 * j) * 2 ^ 8 ≡ 2 ^ (8 * (j + 1))
 eight_more j = sym (pow-add 2 (8 * j) 8) ∙ ap (λ (n : ℕ). 2 ^ n) sum
@@ -178,8 +178,8 @@ times_low a =
     (times_shl a 4)
 
 -- x^64 times half a byte
-half_byte_out : (a : ℕ) → a < 16 → remainder (a * 2 ^ 64) modulus ≡ low_times a
-unfolding division times_mod
+half_byte_out : (a : ℕ) → a < 16 → division 64 0x1B a ≡ low_times a
+unfolding times_mod
 half_byte_out a h =
     division_word 64 0x1B a (omega arith)
     ∙ ap (λ (x : ℕ). remainder x modulus) (times_low a)
@@ -188,18 +188,7 @@ half_byte_out a h =
     (xor_lt 64 (bit_xor (bit_xor a (a * 2)) (a * 8)) (a * 16) (xor_lt 64 (bit_xor a (a * 2)) (a * 8) (xor_lt 64 a (a * 2) (omega arith) (omega arith)) (omega arith)) (omega arith)))
 
 half_byte_times : (a : ℕ) → a < 2 ^ 64 → times_mod modulus 16 a ≡ bit_xor (a * 16 % 2 ^ 64) (low_times (a / 2 ^ 60))
-unfolding times_mod
-half_byte_times a h =
-    ap (λ (x : ℕ). remainder x modulus) (times_comm 16 a ∙ times_shl a 4 ∙ whole)
-    ∙ remainder_xor modulus pos (a / 2 ^ 60 * 2 ^ 64) (a * 16 % 2 ^ 64)
-    ∙ ap₂ bit_xor (half_byte_out (a / 2 ^ 60) (omega arith)) (remainder_small modulus pos (a * 16 % 2 ^ 64) (small (a * 16 % 2 ^ 64) (mod-lt (a * 16) (pow_pos 64))))
-    ∙ xor_comm (low_times (a / 2 ^ 60)) (a * 16 % 2 ^ 64)
-  where
-    whole : a * 16 ≡ bit_xor (a / 2 ^ 60 * 2 ^ 64) (a * 16 % 2 ^ 64)
-    whole =
-        sym (split (a * 16) 64)
-        ∙ sym (xor_shifted (a * 16 / 2 ^ 64) 64 (a * 16 % 2 ^ 64) (mod-lt (a * 16) (pow_pos 64)))
-        ∙ ap (λ (x : ℕ). bit_xor (x * 2 ^ 64) (a * 16 % 2 ^ 64)) (omega arith)
+half_byte_times a h = half_byte_up 64 0x1B a (omega arith) (omega arith) ∙ ap (bit_xor (a * 16 % 2 ^ 64)) (half_byte_out (a / 2 ^ 60) (omega arith))
 
 -- the entries from place i on
 abbrev Folded : ℕ → List ℕ → Type 0

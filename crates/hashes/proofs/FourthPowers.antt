@@ -1,6 +1,5 @@
 -- Fourth powers modulo p: additive, and those of the powers of x one after the other.
-use Rattle.std.proofs.Common.{◌≡◌, ℕ, zero, suc, ◌+◌, ◌*◌, ◌/◌, ◌%◌, ◌^◌, ◌<◌, ◌≤◌, ◌≢◌, List, [], length, get_or, set, refl, sym, ap, ◌∙◌, arith, lt_irrefl, suc-le-suc, zero-le, pow-add, pow-suc, zero-mul, mul_assoc, below_more, get_or-set_other, get_or-set_same}
-use lib.Bits.{bit_xor, xor_zero_r}
+use Rattle.std.proofs.Common.{◌≡◌, ℕ, zero, suc, ◌+◌, ◌*◌, ◌^◌, ◌<◌, ◌≤◌, ◌≢◌, List, [], length, get_or, set, sym, ap, ◌∙◌, arith, lt_irrefl, suc-le-suc, zero-le, pow-add, pow-suc, mul_assoc, below_more, get_or-set_other, get_or-set_same}
 use Rattle.hashes.specs.Additive.{Additive}
 use Rattle.hashes.specs.Division.{division}
 use Rattle.hashes.specs.Factors.{frobenius_start}
@@ -8,9 +7,8 @@ use Rattle.hashes.specs.FieldLemmas.{mod_assoc, mod_one_l, mod_rem_l, mod_rem_r,
 use Rattle.hashes.specs.Frobenius.{frobenius, frobenius_add, frobenius_times, frobenius_xor}
 use Rattle.hashes.specs.Polynomial.{degree, remainder, times_mod}
 use Rattle.hashes.specs.Remainder.{remainder_small}
-use Rattle.hashes.specs.Times.{times_comm}
 use Rattle.hashes.specs.DivisionSteps.{division_one}
-use Rattle.hashes.specs.Words.{table_step, times_shl, word_degree, word_pos}
+use Rattle.hashes.specs.Words.{times_shl, word_degree, word_pos}
 
 module _ (p : ℕ) (pos : 0 < p) where
   shifted : (a i : ℕ) → times_mod p a (2 ^ i) ≡ remainder (a * 2 ^ i) p
@@ -68,25 +66,18 @@ module _ (p : ℕ) (pos : 0 < p) where
   pub fourth_more : (k a : ℕ) → frobenius p 2 (frobenius p (k * 2) a) ≡ frobenius p ((k + 1) * 2) a
   fourth_more k a = sym (frobenius_add p pos 2 (k * 2) a) ∙ ap (λ (n : ℕ). frobenius p n a) (omega arith)
 
--- ---- modulo x^64 + w
+-- ---- modulo x^n + w
 
--- a word is of lower degree
-word_small : (w a : ℕ) → w < 2 ^ 64 → a < 2 ^ 64 → a < 2 ^ degree (2 ^ 64 + w)
-word_small w a hw ha = rw (word_degree 64 w hw) ha
+module _ (n w : ℕ) (h : w < 2 ^ n) where
+  -- a word is of lower degree
+  word_small : (a : ℕ) → a < 2 ^ n → a < 2 ^ degree (2 ^ n + w)
+  word_small a k = rw (word_degree n w h) k
 
-pub word_fourth_one : (w : ℕ) → w < 2 ^ 64 → 1 ≡ frobenius (2 ^ 64 + w) 2 1
-word_fourth_one w h = fourth_one (2 ^ 64 + w) (word_pos 64 w) (word_small w 1 h (omega arith))
+  pub word_fourth_one : 1 < 2 ^ n → 1 ≡ frobenius (2 ^ n + w) 2 1
+  word_fourth_one one = fourth_one (2 ^ n + w) (word_pos n w) (word_small 1 one)
 
-pub word_entry_one : (w a : ℕ) → w < 2 ^ 64 → a < 2 ^ 64 → a ≡ times_mod (2 ^ 64 + w) (frobenius (2 ^ 64 + w) 2 1) a
-word_entry_one w a hw ha = entry_one (2 ^ 64 + w) (word_pos 64 w) a (word_small w 1 hw (omega arith)) (word_small w a hw ha)
-
--- x^4 times a: the top half byte goes out, and its entry e is added
-pub half_byte_up : (w a e : ℕ) → w < 2 ^ 64 → e ≡ division 64 w (a / 2 ^ 60) → bit_xor (a * 2 ^ 4 % 2 ^ 64) e ≡ times_mod (2 ^ 64 + w) (2 ^ 4) a
-half_byte_up w a e h f =
-    ap (bit_xor (a * 2 ^ 4 % 2 ^ 64)) (f ∙ ap (division 64 w) (sym (xor_zero_r (a / 2 ^ 60))))
-    ∙ table_step 60 4 w a 0 h
-    ∙ ap (λ (x : ℕ). remainder x (2 ^ 64 + w)) (ap (bit_xor (a * 2 ^ 4)) (zero-mul (2 ^ 64)) ∙ xor_zero_r (a * 2 ^ 4) ∙ sym (times_comm (2 ^ 4) a ∙ times_shl a 4))
-    ∙ unfold times_mod in refl
+  pub word_entry_one : (a : ℕ) → 1 < 2 ^ n → a < 2 ^ n → a ≡ times_mod (2 ^ n + w) (frobenius (2 ^ n + w) 2 1) a
+  word_entry_one a one k = entry_one (2 ^ n + w) (word_pos n w) a (word_small 1 one) (word_small a k)
 
 -- x squared six times is x^64, which is w
 pub six_squarings : (w : ℕ) → w < 2 ^ 64 → frobenius (2 ^ 64 + w) 6 2 ≡ w
@@ -105,32 +96,21 @@ Row p j row = (d : ℕ) → d < 16 → get_or row d 0 ≡ frobenius p 2 (d * 2 ^
 abbrev pub Rows : ℕ → ℕ → List (List ℕ) → Type 0
 Rows p n rows = (j : ℕ) → j < n → Row p j (get_or rows j [])
 
--- one row more: it is made from a, the fourth power of x^(4 i)
-pub rows_more : (w q i a : ℕ) (rows : List (List ℕ)) (row : List ℕ) → i < length rows → q ≡ w → a ≡ frobenius (2 ^ 64 + w) 2 (2 ^ (4 * i))
-    → ((d : ℕ) → d < 16 → get_or row d 0 ≡ times_mod (2 ^ 64 + q) (frobenius (2 ^ 64 + q) 2 d) a)
-    → Rows (2 ^ 64 + w) i rows → Rows (2 ^ 64 + w) (i + 1) (set rows i row)
-rows_more w q i a rows row within same power filled before =
-    below_more _ _
-    (λ k l d h. let ne : k ≢ i = omega arith in rw get_or-set_other (before k l d h))
-    (λ d h. rw get_or-set_same (entry d h))
-  where
-    entry : (d : ℕ) → d < 16 → get_or row d 0 ≡ frobenius (2 ^ 64 + w) 2 (d * 2 ^ (4 * i))
-    entry d h =
-        filled d h ∙ ap (λ (n : ℕ). times_mod (2 ^ 64 + n) (frobenius (2 ^ 64 + n) 2 d) a) same
-        ∙ ap (times_mod (2 ^ 64 + w) (frobenius (2 ^ 64 + w) 2 d)) power ∙ fourth_shifted (2 ^ 64 + w) (word_pos 64 w) d (4 * i)
+module _ (p : ℕ) (pos : 0 < p) (i a : ℕ) (power : a ≡ frobenius p 2 (2 ^ (4 * i))) where
+  -- one row more: it is made from a, the fourth power of x^(4 i)
+  pub rows_more : (rows : List (List ℕ)) (row : List ℕ) → i < length rows → ((d : ℕ) → d < 16 → get_or row d 0 ≡ times_mod p (frobenius p 2 d) a)
+      → Rows p i rows → Rows p (i + 1) (set rows i row)
+  rows_more rows row within filled before =
+      below_more _ _
+      (λ k l d h. let ne : k ≢ i = omega arith in rw get_or-set_other (before k l d h))
+      (λ d h. rw get_or-set_same (filled d h ∙ ap (times_mod p (frobenius p 2 d)) power ∙ fourth_shifted p pos d (4 * i)))
 
--- x^4 times the entry at x^3 makes the next row
-pub row_power : (w q i a b c : ℕ) → q ≡ w → a ≡ frobenius (2 ^ 64 + w) 2 (2 ^ (4 * i)) → b ≡ times_mod (2 ^ 64 + q) (frobenius (2 ^ 64 + q) 2 8) a
-    → c ≡ times_mod (2 ^ 64 + q) (2 ^ 4) b → c ≡ frobenius (2 ^ 64 + w) 2 (2 ^ (4 * (i + 1)))
-row_power w q i a b c same power e f =
-    f ∙ ap (λ (n : ℕ). times_mod (2 ^ 64 + n) (2 ^ 4) b) same
-    ∙ ap (times_mod P (2 ^ 4)) (e ∙ ap (λ (n : ℕ). times_mod (2 ^ 64 + n) (frobenius (2 ^ 64 + n) 2 8) a) same ∙ ap (times_mod P (frobenius P 2 8)) power
-    ∙ fourth_shifted P (word_pos 64 w) 8 (4 * i) ∙ ap (frobenius P 2) third)
-    ∙ fourth_up P (word_pos 64 w) (3 + 4 * i)
-    ∙ ap (λ (n : ℕ). frobenius P 2 (2 ^ n)) (omega arith)
-  where
-    P : ℕ
-    P = 2 ^ 64 + w
-
-    third : 8 * 2 ^ (4 * i) ≡ 2 ^ (3 + 4 * i)
-    third = sym (pow-add 2 3 (4 * i))
+  -- x^4 times the entry at x^3 makes the next row
+  pub row_power : (b c : ℕ) → b ≡ times_mod p (frobenius p 2 8) a → c ≡ times_mod p (2 ^ 4) b → c ≡ frobenius p 2 (2 ^ (4 * (i + 1)))
+  row_power b c e f =
+      f ∙ ap (times_mod p (2 ^ 4)) (e ∙ ap (times_mod p (frobenius p 2 8)) power ∙ fourth_shifted p pos 8 (4 * i) ∙ ap (frobenius p 2) third)
+      ∙ fourth_up p pos (3 + 4 * i)
+      ∙ ap (λ (n : ℕ). frobenius p 2 (2 ^ n)) (omega arith)
+    where
+      third : 8 * 2 ^ (4 * i) ≡ 2 ^ (3 + 4 * i)
+      third = sym (pow-add 2 3 (4 * i))

@@ -18,9 +18,9 @@ division n p M = remainder (M * 2 ^ n) (2 ^ n + p)
 abbrev pub division_hash : ℕ → List ℕ → ℕ
 division_hash p m = division 64 p (message_polynomial m)
 
--- the remainder so far, moved on by one byte: times x^8, and the byte times x^64 added
-abbrev pub division_step : ℕ → ℕ → ℕ → ℕ
-division_step p rest b = remainder (bit_xor (rest * 2 ^ 8) (b * 2 ^ 64)) (2 ^ 64 + p)
+-- the remainder so far, moved on by one byte: times x^8, and the byte times x^n added
+unfoldable pub division_step : ℕ → ℕ → ℕ → ℕ → ℕ
+division_step n p rest b = remainder (bit_xor (rest * 2 ^ 8) (b * 2 ^ n)) (2 ^ n + p)
 
 -- ---- the family
 
@@ -40,7 +40,7 @@ division_family = record {
   key_len = 8;
   refusal = λ key. reducible_refusal (word key);
   first = λ key. division_state (word key) (word key);
-  next = λ s b. division_state s.p (division_step s.p s.rest b);
+  next = λ s b. division_state s.p (division_step 64 s.p s.rest b);
   close = λ s. s.rest;
   bound = λ L. L / 8 + 1;
 }

@@ -22,28 +22,28 @@ use Rattle.hashes.specs.Words.{word_degree, word_pos}
 -- ---- the formula
 
 -- only the remainder moves
-pub division_absorbed : (p r : ℕ) (m : List ℕ) → absorbed division_family (division_state p r) m ≡ division_state p (fold (division_step p) r m)
+pub division_absorbed : (p r : ℕ) (m : List ℕ) → absorbed division_family (division_state p r) m ≡ division_state p (fold (division_step 64 p) r m)
 division_absorbed p r [] = refl
-division_absorbed p r (b ∷ m) = division_absorbed p (division_step p r b) m
+division_absorbed p r (b ∷ m) = division_absorbed p (division_step 64 p r b) m
 
 division_formula : (key m : List ℕ) → Bytes key → length key ≡ 8 → Bytes m → hash division_family key m ≡ division_hash (word key) m
 division_formula key m hk sized h =
-    ap (λ (s : DivisionState). s.rest) (division_absorbed (word key) (word key) m) ∙ division_run (word key) m (word_64 key hk sized) h
+    ap (λ (s : DivisionState). s.rest) (division_absorbed (word key) (word key) m) ∙ division_run 64 (word key) m (word_64 key hk sized) h
 
 pub division_facts : DivisionFacts
 division_facts = record { formula = division_formula; keys = λ key. irreducible_taken (word key); others = λ key. reducible_refused (word key) }
 
 -- ---- the law
 
-division_lt : (p M : ℕ) → p < 2 ^ 64 → division 64 p M < 2 ^ 64
+division_lt : (n p M : ℕ) → p < 2 ^ n → division n p M < 2 ^ n
 unfolding division
-division_lt p M h = subst (λ (n : ℕ). division 64 p M < 2 ^ n) (word_degree 64 p h) (remainder_lt (2 ^ 64 + p) (word_pos 64 p) (M * 2 ^ 64))
+division_lt n p M h = subst (λ (d : ℕ). division n p M < 2 ^ d) (word_degree n p h) (remainder_lt (2 ^ n + p) (word_pos n p) (M * 2 ^ n))
 
 key_word : (key : List ℕ) → Key division_family key → word key < 2 ^ 64
 key_word key k = word_64 key k.bytes k.sized
 
 division_words : (key m : List ℕ) → Key division_family key → Bytes m → hash division_family key m < 2 ^ 64
-division_words key m k h = rw (division_formula key m k.bytes k.sized h) (division_lt (word key) (message_polynomial m) (key_word key k))
+division_words key m k h = rw (division_formula key m k.bytes k.sized h) (division_lt 64 (word key) (message_polynomial m) (key_word key k))
 
 division_bounded : Bounded division_family
 division_bounded m n d hm hn ne [] apart all = zero-le

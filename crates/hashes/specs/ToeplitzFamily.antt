@@ -1,53 +1,29 @@
 -- The Toeplitz family computes the formula, and keeps the law.
-use Rattle.std.specs.Prelude.{◌≡◌, ℕ, suc, ◌+◌, ◌*◌, ◌/◌, ◌^◌, ◌<◌, ◌≤◌, max, List, [], ◌∷◌, ◌++◌, map, length, take, drop, bit_xor}
-use Rattle.std.proofs.Common.{sym, ap, ap₂, subst, ◌∙◌, zero-add, arith, lit≤, length-drop, take-append-drop, length-take-le}
+use Rattle.std.specs.Prelude.{◌≡◌, ℕ, ◌+◌, ◌*◌, ◌/◌, ◌^◌, ◌<◌, ◌≤◌, max, List, ◌++◌, map, length, take, drop, bit_xor}
+use Rattle.std.proofs.Common.{sym, ap, ap₂, subst, ◌∙◌, arith, lit≤, length-drop, take-append-drop, length-take-le}
 use Rattle.std.proofs.Math.Nat.{le-max_left, le-max_right}
-use Rattle.std.specs.Int.Bits.{xor_assoc}
 use Rattle.std.proofs.lemmas.List.{length-map}
 use Rattle.hashes.specs.Family.{Bounded, Key, Lawful, hash, absorbed}
 use Rattle.hashes.specs.Lists.{◌∈◌}
-use Rattle.hashes.specs.Toeplitz.{ToeplitzFacts, ToeplitzState, bits, byte_bits, chosen, first_state_of, lfsr, state, taps_of, toeplitz_family, toeplitz_hash, toeplitz_next, toeplitz_state}
+use Rattle.hashes.specs.Toeplitz.{ToeplitzFacts, first_state_of, lfsr, taps_of, toeplitz_family, toeplitz_hash, toeplitz_state}
 use Rattle.hashes.specs.Word.{Bytes, word}
 use Rattle.hashes.specs.Act.{act_lt}
 use Rattle.hashes.specs.Bytes.{word_64, word_injective}
 use Rattle.hashes.specs.Counting.{∈_all, all_from_∈}
 use Rattle.hashes.specs.Keys.{pair_refused, pair_taken, zero_state_refused}
-use Rattle.hashes.specs.Lfsr.{lfsr_lt, lfsr_xor, state_add}
+use Rattle.hashes.specs.Lfsr.{lfsr_lt, lfsr_xor}
 use Rattle.hashes.specs.Pairs.{distinct_map}
 use Rattle.hashes.specs.ToeplitzLaw.{Differ, PairKey, toeplitz_law}
-use Rattle.hashes.specs.ToeplitzMessage.{bit_polynomial, length_bits, toeplitz_is}
-use Rattle.hashes.specs.ToeplitzSteps.{chosen_append, chosen_from, chosen_none, state_none, toeplitz_close}
+use Rattle.hashes.specs.ToeplitzMessage.{bit_polynomial, toeplitz_is}
+use Rattle.hashes.specs.ToeplitzSteps.{register_after, toeplitz_close, total_after}
 use Rattle.std.proofs.ByRecursion.{All-drop, All-map, All-take}
 
 -- ---- the formula
 
-register_after : (m : List ℕ) (r : ToeplitzState) → (absorbed toeplitz_family r m).register ≡ state 64 r.taps r.register (8 * length m)
-register_after [] r = state_none 64 r.taps r.register
-register_after (b ∷ m) r =
-    register_after m (toeplitz_next r b) ∙ sym (state_add 64 r.taps r.register 8 (8 * length m)) ∙ ap (state 64 r.taps r.register) more
-  where
-    more : 8 + 8 * length m ≡ 8 * suc (length m)
-    more = omega arith
-
-total_after : (m : List ℕ) (r : ToeplitzState)
-    → (absorbed toeplitz_family r m).total ≡ bit_xor r.total (chosen 64 r.taps r.register 0 (byte_bits m))
-unfolding byte_bits
-total_after [] r = chosen_none 64 r.taps r.register r.total
-total_after (b ∷ m) r =
-    total_after m (toeplitz_next r b)
-    ∙ xor_assoc r.total (chosen 64 r.taps r.register 0 (bits 8 b)) (chosen 64 r.taps (state 64 r.taps r.register 8) 0 (byte_bits m))
-    ∙ ap (bit_xor r.total)
-    (ap (bit_xor (chosen 64 r.taps r.register 0 (bits 8 b))) (sym (chosen_from 64 r.taps r.register 8 (byte_bits m)))
-    ∙ ap (λ (x : ℕ). bit_xor (chosen 64 r.taps r.register 0 (bits 8 b)) (chosen 64 r.taps r.register x (byte_bits m))) (sym place)
-    ∙ sym (chosen_append 64 r.taps r.register 0 (bits 8 b) (byte_bits m)))
-  where
-    place : 0 + length (bits 8 b) ≡ 8
-    place = zero-add (length (bits 8 b)) ∙ length_bits 8 b
-
--- byte after byte gives the hash of the whole
+-- byte after byte gives the hash of the whole: the family's step takes in the eight bits of a byte
 pub toeplitz_run : (p s : ℕ) (m : List ℕ) → toeplitz_family.close (absorbed toeplitz_family (toeplitz_state p s 0) m) ≡ toeplitz_hash p s m
 toeplitz_run p s m =
-    ap₂ bit_xor (total_after m (toeplitz_state p s 0)) (register_after m (toeplitz_state p s 0)) ∙ sym (toeplitz_close 64 p s m)
+    ap₂ bit_xor (total_after 64 m (toeplitz_state p s 0)) (register_after 64 m (toeplitz_state p s 0)) ∙ sym (toeplitz_close 64 p s m)
 
 toeplitz_formula : (key m : List ℕ) → hash toeplitz_family key m ≡ toeplitz_hash (taps_of key) (first_state_of key) m
 toeplitz_formula key m = toeplitz_run (word (take 8 key)) (word (drop 8 key)) m

@@ -1,6 +1,6 @@
 -- The Toeplitz hash one byte at a time, and a byte one bit at a time.
-use Rattle.std.specs.Prelude.{◌≡◌, ℕ, zero, suc, ◌+◌, ◌-◌, ◌*◌, ◌/◌, ◌%◌, ◌^◌, ◌<◌, ◌≤◌, List, [], ◌∷◌, ◌++◌, length, bit_and, bit_or, bit_xor, count_ones, refl}
-use Rattle.std.proofs.Common.{sym, ap, ap₂, ◌∙◌, add-zero, add-suc, suc-add, zero-add, mod-eq_of_lt, one-mul, not-suc-le-zero, sub-one, arith, length-append}
+use Rattle.std.specs.Prelude.{◌≡◌, ℕ, zero, suc, ◌+◌, ◌-◌, ◌*◌, ◌/◌, ◌%◌, ◌^◌, ◌<◌, ◌≤◌, List, [], ◌∷◌, ◌++◌, length, fold, bit_and, bit_or, bit_xor, count_ones, refl}
+use Rattle.std.proofs.Common.{sym, ap, ap₂, ◌∙◌, add-zero, add-suc, suc-add, zero-add, mod-eq_of_lt, one-mul, not-suc-le-zero, sub-one, arith, length-append, shl_lt}
 use Rattle.std.proofs.lemmas.Nat.{xor_comm, and_mask}
 use Rattle.std.specs.Int.Bits.{xor_assoc, xor_zero_r, xor_shifted, or_shifted_r, shifted_half}
 use Rattle.hashes.specs.Toeplitz.{ToeplitzState, bit, parity, lfsr, state, bits, byte_bits, message_bits, chosen, toeplitz, toeplitz_state}
@@ -18,11 +18,13 @@ lfsr_word m p s h =
     ∙ xor_shifted (parity (bit_and s p)) m (s / 2) (half_lt m s h)
     ∙ sym (or_shifted_r (parity (bit_and s p)) m (s / 2) (half_lt m s h))
 
-pub step_word : (p s : ℕ) → s < 2 ^ 64 → bit_or (s / 2) (count_ones (bit_and s p) % 2 * 2 ^ 63 % 2 ^ 64) ≡ lfsr 64 p s
+-- as the machine puts it together
+pub step_word : (m p s : ℕ) → s < 2 ^ suc m → lfsr (suc m) p s ≡ bit_or (s / 2) (count_ones (bit_and s p) % 2 * 2 ^ m % 2 ^ suc m)
 unfolding parity
-step_word p s h =
-    let small : count_ones (bit_and s p) % 2 < 2 = parity_lt (bit_and s p) in
-    ap (bit_or (s / 2)) (mod-eq_of_lt (omega arith)) ∙ sym (lfsr_word 63 p s h)
+step_word m p s h = lfsr_word m p s h ∙ ap (bit_or (s / 2)) (sym (mod-eq_of_lt (rw one_more at (shl_lt 1 m (parity_lt (bit_and s p))))))
+  where
+    one_more : 1 + m ≡ suc m
+    one_more = omega arith
 
 -- ---- the chosen states, from a later one on
 
@@ -92,27 +94,43 @@ run_done n p w a b zero X Y l h = (h.0, sym (xor_zero_r a) ∙ h.1)
 run_done n p w a b (suc i) X Y l h = absurd (not-suc-le-zero l)
 
 -- the state after the i lowest bits of a byte, the highest of them first
-abbrev pub after_bits : ToeplitzState → ℕ → ℕ → ToeplitzState
-after_bits r i b = toeplitz_state r.taps (state 64 r.taps r.register i) (bit_xor r.total (chosen 64 r.taps r.register 0 (bits i b)))
+abbrev pub after_bits : ℕ → ToeplitzState → ℕ → ℕ → ToeplitzState
+after_bits n r i b = toeplitz_state r.taps (state n r.taps r.register i) (bit_xor r.total (chosen n r.taps r.register 0 (bits i b)))
 
 -- the first of them: where it is one, it chooses the register
-pub after_first_bit : (r : ToeplitzState) (b i : ℕ) → 0 < i
-    → after_bits (toeplitz_state r.taps (lfsr 64 r.taps r.register) (bit_xor r.total (bit_and (b / 2 ^ (i - 1)) 1 * r.register))) (i - 1) b ≡ after_bits r i b
+pub after_first_bit : (n : ℕ) (r : ToeplitzState) (b i : ℕ) → 0 < i
+    → after_bits n (toeplitz_state r.taps (lfsr n r.taps r.register) (bit_xor r.total (bit_and (b / 2 ^ (i - 1)) 1 * r.register))) (i - 1) b ≡ after_bits n r i b
 unfolding bit
-after_first_bit r b i pos =
+after_first_bit n r b i pos =
     let first = ap (λ (x : ℕ). bit_xor r.total (x * r.register)) (and_mask (b / 2 ^ (i - 1)) 1) in
-    let h = run_again 64 r.taps r.register _ r.total _ b i _ _ pos refl first (refl, refl) in
+    let h = run_again n r.taps r.register _ r.total _ b i _ _ pos refl first (refl, refl) in
     ap₂ (toeplitz_state r.taps) h.0 h.1
 
-pub after_no_bits : (r : ToeplitzState) (b i : ℕ) → i ≤ 0 → after_bits r i b ≡ r
-after_no_bits r b i none = let h = run_done 64 r.taps r.register r.total b i _ _ none (refl, refl) in sym (ap₂ (toeplitz_state r.taps) h.0 h.1)
+pub after_no_bits : (n : ℕ) (r : ToeplitzState) (b i : ℕ) → i ≤ 0 → after_bits n r i b ≡ r
+after_no_bits n r b i none = let h = run_done n r.taps r.register r.total b i _ _ none (refl, refl) in sym (ap₂ (toeplitz_state r.taps) h.0 h.1)
 
--- ---- no bit
+-- ---- byte after byte
 
-pub state_none : (n p s : ℕ) → s ≡ state n p s 0
+pub register_after : (n : ℕ) (m : List ℕ) (r : ToeplitzState) → (fold (λ r b. after_bits n r 8 b) r m).register ≡ state n r.taps r.register (8 * length m)
 unfolding state
-state_none n p s = refl
+register_after n [] r = refl
+register_after n (b ∷ m) r =
+    register_after n m (after_bits n r 8 b) ∙ sym (state_add n r.taps r.register 8 (8 * length m)) ∙ ap (state n r.taps r.register) more
+  where
+    more : 8 + 8 * length m ≡ 8 * suc (length m)
+    more = omega arith
 
-pub chosen_none : (n p s t : ℕ) → t ≡ bit_xor t (chosen n p s 0 (byte_bits []))
+pub total_after : (n : ℕ) (m : List ℕ) (r : ToeplitzState)
+    → (fold (λ r b. after_bits n r 8 b) r m).total ≡ bit_xor r.total (chosen n r.taps r.register 0 (byte_bits m))
 unfolding chosen byte_bits
-chosen_none n p s t = sym (xor_zero_r t)
+total_after n [] r = sym (xor_zero_r r.total)
+total_after n (b ∷ m) r =
+    total_after n m (after_bits n r 8 b)
+    ∙ xor_assoc r.total (chosen n r.taps r.register 0 (bits 8 b)) (chosen n r.taps (state n r.taps r.register 8) 0 (byte_bits m))
+    ∙ ap (bit_xor r.total)
+    (ap (bit_xor (chosen n r.taps r.register 0 (bits 8 b))) (sym (chosen_from n r.taps r.register 8 (byte_bits m)))
+    ∙ ap (λ (x : ℕ). bit_xor (chosen n r.taps r.register 0 (bits 8 b)) (chosen n r.taps r.register x (byte_bits m))) (sym place)
+    ∙ sym (chosen_append n r.taps r.register 0 (bits 8 b) (byte_bits m)))
+  where
+    place : 0 + length (bits 8 b) ≡ 8
+    place = zero-add (length (bits 8 b)) ∙ length_bits 8 b

@@ -1,5 +1,5 @@
 -- Remainders by x^n + w, where w is a word of n bits: what code does with words. For any width.
-use Rattle.std.specs.Prelude.{◌≡◌, ℕ, zero, suc, ◌+◌, ◌*◌, ◌/◌, ◌%◌, ◌^◌, ◌<◌, ◌⊎◌, bit_xor}
+use Rattle.std.specs.Prelude.{◌≡◌, ℕ, zero, suc, ◌+◌, ◌-◌, ◌*◌, ◌/◌, ◌%◌, ◌^◌, ◌<◌, ◌≤◌, ◌⊎◌, bit_xor}
 use Rattle.std.proofs.Math.Path.{sym, ap, ap₂}
 use Rattle.std.proofs.Common.{◌∙◌, inl, inr, zero-mul, one-mul, mul-one, mul_assoc, mul_comm, add-zero, zero-add, mul_right_comm, mul-lt-mul_of_pos_right, mod-lt, pow-suc, zero-lt-suc, div-lt_iff_lt-mul, arith, pow_pos, pow-add, shl_lt}
 use Rattle.std.proofs.Math.Nat.{mul-mod_left, mul-div-mul_right}
@@ -75,24 +75,26 @@ module _ (p : ℕ) (pos : 0 < p) where
       ∙ sym (remainder_xor p pos (remainder (m * 2 ^ n) p * 2 ^ k) (b * 2 ^ n))
 
   -- the step by a table: the k top digits of the remainder and the k new ones give the entry, the other j digits are shifted
-  pub remainder_table : (j k r b : ℕ) → degree p ≡ j + k
-      → remainder (bit_xor (r * 2 ^ k) (b * 2 ^ (j + k))) p
-      ≡ bit_xor (r % 2 ^ j * 2 ^ k) (remainder (bit_xor (r / 2 ^ j) b * 2 ^ (j + k)) p)
-  remainder_table j k r b deg =
+  pub remainder_table : (n j k r b : ℕ) → j + k ≡ n → degree p ≡ n
+      → remainder (bit_xor (r * 2 ^ k) (b * 2 ^ n)) p ≡ bit_xor (r % 2 ^ j * 2 ^ k) (remainder (bit_xor (r / 2 ^ j) b * 2 ^ n) p)
+  remainder_table n j k r b whole deg =
       ap (λ (x : ℕ). remainder x p)
-      (ap (λ (x : ℕ). bit_xor (x * 2 ^ k) (b * 2 ^ (j + k))) (sym (split r j) ∙ sym (xor_shifted (r / 2 ^ j) j (r % 2 ^ j) low_lt))
-      ∙ ap (λ (x : ℕ). bit_xor x (b * 2 ^ (j + k)))
+      (ap (λ (x : ℕ). bit_xor (x * 2 ^ k) (b * 2 ^ n)) (sym (split r j) ∙ sym (xor_shifted (r / 2 ^ j) j (r % 2 ^ j) low_lt))
+      ∙ ap (λ (x : ℕ). bit_xor x (b * 2 ^ n))
       (sym (xor_shl (r / 2 ^ j * 2 ^ j) (r % 2 ^ j) k)
-      ∙ ap (λ (x : ℕ). bit_xor x (r % 2 ^ j * 2 ^ k)) (mul_assoc (r / 2 ^ j) (2 ^ j) (2 ^ k) ∙ ap (λ (x : ℕ). r / 2 ^ j * x) (sym (pow-add 2 j k)))
-      ∙ xor_comm (r / 2 ^ j * 2 ^ (j + k)) (r % 2 ^ j * 2 ^ k))
-      ∙ xor_assoc (r % 2 ^ j * 2 ^ k) (r / 2 ^ j * 2 ^ (j + k)) (b * 2 ^ (j + k))
-      ∙ ap (bit_xor (r % 2 ^ j * 2 ^ k)) (xor_shl (r / 2 ^ j) b (j + k)))
-      ∙ remainder_xor p pos (r % 2 ^ j * 2 ^ k) (bit_xor (r / 2 ^ j) b * 2 ^ (j + k))
-      ∙ ap (λ (x : ℕ). bit_xor x (remainder (bit_xor (r / 2 ^ j) b * 2 ^ (j + k)) p))
-      (remainder_small p pos (r % 2 ^ j * 2 ^ k) (rw deg (shl_lt j k low_lt)))
+      ∙ ap (λ (x : ℕ). bit_xor x (r % 2 ^ j * 2 ^ k)) (mul_assoc (r / 2 ^ j) (2 ^ j) (2 ^ k) ∙ ap (λ (x : ℕ). r / 2 ^ j * x) power)
+      ∙ xor_comm (r / 2 ^ j * 2 ^ n) (r % 2 ^ j * 2 ^ k))
+      ∙ xor_assoc (r % 2 ^ j * 2 ^ k) (r / 2 ^ j * 2 ^ n) (b * 2 ^ n)
+      ∙ ap (bit_xor (r % 2 ^ j * 2 ^ k)) (xor_shl (r / 2 ^ j) b n))
+      ∙ remainder_xor p pos (r % 2 ^ j * 2 ^ k) (bit_xor (r / 2 ^ j) b * 2 ^ n)
+      ∙ ap (λ (x : ℕ). bit_xor x (remainder (bit_xor (r / 2 ^ j) b * 2 ^ n) p))
+      (remainder_small p pos (r % 2 ^ j * 2 ^ k) (rw (deg, ← whole) (shl_lt j k low_lt)))
     where
       low_lt : r % 2 ^ j < 2 ^ j
       low_lt = mod-lt r (pow_pos j)
+
+      power : 2 ^ j * 2 ^ k ≡ 2 ^ n
+      power = rw (← whole) (sym (pow-add 2 j k))
 
 -- ---- x times a word, modulo x^(n+1) + w
 
@@ -128,10 +130,20 @@ division_word n w t h =
     whole = ap (λ (x : ℕ). bit_xor x w) (sym (one-mul (2 ^ n))) ∙ xor_shifted 1 n w h ∙ ap (λ (x : ℕ). x + w) (one-mul (2 ^ n))
 
 -- one lookup: the word is shifted up by k digits, and the entry at its top digits and the new ones is added
-pub table_step : (j k w r b : ℕ) → w < 2 ^ (j + k)
-    → bit_xor (r * 2 ^ k % 2 ^ (j + k)) (division (j + k) w (bit_xor (r / 2 ^ j) b)) ≡ remainder (bit_xor (r * 2 ^ k) (b * 2 ^ (j + k))) (2 ^ (j + k) + w)
+pub table_step : (n k w r b : ℕ) → k ≤ n → w < 2 ^ n
+    → bit_xor (r * 2 ^ k % 2 ^ n) (division n w (bit_xor (r / 2 ^ (n - k)) b)) ≡ remainder (bit_xor (r * 2 ^ k) (b * 2 ^ n)) (2 ^ n + w)
 unfolding division
-table_step j k w r b h =
-    ap (λ (x : ℕ). bit_xor x (remainder (bit_xor (r / 2 ^ j) b * 2 ^ (j + k)) (2 ^ (j + k) + w)))
-    (mod-pow-add (r * 2 ^ k) j k ∙ ap₂ (λ (x y : ℕ). x % 2 ^ j * 2 ^ k + y) (shl-shr r k) (mul-mod_left r (2 ^ k)) ∙ add-zero (r % 2 ^ j * 2 ^ k))
-    ∙ sym (remainder_table (2 ^ (j + k) + w) (word_pos (j + k) w) j k r b (word_degree (j + k) w h))
+table_step n k w r b l h =
+    ap (λ (x : ℕ). bit_xor x (remainder (bit_xor (r / 2 ^ j) b * 2 ^ n) (2 ^ n + w))) low
+    ∙ sym (remainder_table (2 ^ n + w) (word_pos n w) n j k r b whole (word_degree n w h))
+  where
+    j : ℕ
+    j = n - k
+
+    whole : j + k ≡ n
+    whole = omega arith
+
+    low : r * 2 ^ k % 2 ^ n ≡ r % 2 ^ j * 2 ^ k
+    low =
+        ap (λ (m : ℕ). r * 2 ^ k % 2 ^ m) (sym whole) ∙ mod-pow-add (r * 2 ^ k) j k
+        ∙ ap₂ (λ (x y : ℕ). x % 2 ^ j * 2 ^ k + y) (shl-shr r k) (mul-mod_left r (2 ^ k)) ∙ add-zero (r % 2 ^ j * 2 ^ k)

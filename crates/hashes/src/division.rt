@@ -43,14 +43,14 @@ impl Table {
     // The remainder moved on by one byte, with one lookup. The other bytes are moved up by one.
     #[tactic(auto, using(crate::specs::DivisionSteps::division_lookup))]
     fn step(&self, rest: u64, byte: u8) -> u64
-        ensures { result ≡ division_step self.now.p rest byte }
+        ensures { result ≡ division_step 64 self.now.p rest byte }
     {
         (rest << 8) ^ self.entry(rest, byte)
     }
 
     // The remainder moved on by each byte of a part.
     fn absorb(&self, rest: u64, part: &[u8]) -> u64
-        ensures { result ≡ fold (division_step self.now.p) rest part.now }
+        ensures { result ≡ fold (division_step 64 self.now.p) rest part.now }
     {
         part.iter().fold(rest, |rest, b| self.step(rest, *b))
     }

@@ -27,7 +27,7 @@ impl Carries {
     }
 
     // x^4 times a: the top half byte goes out, and its multiple of x^64 is added.
-    #[tactic(auto, using(crate::proofs::FourthPowers::half_byte_up))]
+    #[tactic(auto, using(crate::proofs::Multiples::half_byte_up_64))]
     fn half_byte_up(&self, a: u64) -> u64
         ensures { result ≡ times_mod (2 ^ 64 + self.now.p) (2 ^ 4) a }
     {

@@ -10,7 +10,7 @@ pub loop-k-init : goal.loop-k-init
 loop-k-init c =
     let P = 2 ^ 64 + c.args.self.now.p in record {
       filled = filled_one (λ d. times_mod P (frobenius P 2 d) c.args.a) (entry_add P (word_pos 64 c.args.self.now.p) c.args.a) 16;
-      power = word_entry_one c.args.self.now.p c.args.a c.args.self.now.fits c.ranges.a.fits;
+      power = word_entry_one 64 c.args.self.now.p c.args.self.now.fits c.args.a (omega arith) c.ranges.a.fits;
     }
 
 pub extend_sums-requires : goal.extend_sums-requires

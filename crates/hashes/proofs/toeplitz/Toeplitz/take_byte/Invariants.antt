@@ -5,4 +5,4 @@ use Rattle.hashes.proofs.toeplitz.Toeplitz.take_byte.Given as goal
 
 -- i bits of the byte are left
 abbrev pub invariant-loop-i : goal.invariant-loop-i
-invariant-loop-i l = after_bits l.self l.i l.byte ≡ toeplitz_next l.fn.self l.byte
+invariant-loop-i l = after_bits 64 l.self l.i l.byte ≡ toeplitz_next l.fn.self l.byte
