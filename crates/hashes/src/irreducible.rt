@@ -9,6 +9,7 @@ ghost use Rattle.hashes.specs.Rabin.{BackAtLast};
 use crate::fourth_powers::{fourth_powers, repeated_fourth_power};
 
 // Whether x^64 + p is irreducible. Half of all words have the factor x, and half of the others x + 1, so these are looked at first.
+#[tactic(auto, using(crate::proofs::KeyTest::exact_test))]
 pub fn is_irreducible(p: u64) -> bool
     ensures value { result ≡ irreducible_by_trial (2 ^ 64 + p) }
     ensures exact { Decides result (Irreducible (2 ^ 64 + p)) }
