@@ -1,5 +1,5 @@
 -- Calls made one after the other, as a run, and their replies in places.
-use Rattle.std.proofs.Common.{◌≡◌, ℕ, suc, ◌+◌, ◌<◌, ◌≤◌, ◌⊎◌, List, [], ◌∷◌, ◌++◌, map, length, get_or, take, set, sym, refl, ap, ◌∙◌, subst, inl, inr, le_of_suc-le-suc, not-suc-le-zero, arith, length-take-le}
+use Rattle.std.proofs.Common.{◌≡◌, ℕ, suc, ◌+◌, ◌<◌, List, [], ◌∷◌, ◌++◌, map, length, get_or, take, set, sym, refl, ap, ◌∙◌, subst, arith, length-take-le}
 use lib.ListN.{length-map}
 use Rattle.std.proofs.lemmas.List.{map_push, take_more}
 use Rattle.hashes.specs.Family.{Meaning}
@@ -17,17 +17,12 @@ use Rattle.line_reader.specs.Handover.{placed, records_of, replies_of}
 abbrev cons : Reply → List Reply → List Reply
 cons a as' = a ∷ as'
 
-placed_room : (given places : List Reply) (a : Reply) → length given < length places → set (placed given places) (length given) a ≡ placed (given ++ (a ∷ [])) places
-placed_room [] [] a h = absurd (not-suc-le-zero h)
-placed_room [] (p ∷ places) a h = refl
-placed_room (b ∷ given) [] a h = absurd (not-suc-le-zero h)
-placed_room (b ∷ given) (p ∷ places) a h = ap (cons b) (placed_room given places a (le_of_suc-le-suc h))
-
-placed_full : (given places : List Reply) (a : Reply) → length places ≤ length given → placed given places ≡ placed (given ++ (a ∷ [])) places
-placed_full [] [] a h = refl
-placed_full [] (p ∷ places) a h = absurd (not-suc-le-zero h)
-placed_full (b ∷ given) [] a h = refl
-placed_full (b ∷ given) (p ∷ places) a h = ap (cons b) (placed_full given places a (le_of_suc-le-suc h))
+-- one reply more; where there is no place for it, nothing is put
+placed_more : (given places : List Reply) (a : Reply) → set (placed given places) (length given) a ≡ placed (given ++ (a ∷ [])) places
+placed_more [] [] a = refl
+placed_more [] (p ∷ places) a = refl
+placed_more (b ∷ given) [] a = refl
+placed_more (b ∷ given) (p ∷ places) a = ap (cons b) (placed_more given places a)
 
 -- ---- one call more
 
@@ -65,41 +60,25 @@ module _ (M : Meaning) (v w u : View M) (calls : List Call) (call : Call) (place
   reply_is key pad e =
       replies ∙ ap (λ (x : View M). input_reply M x (call_input call)) (so_far key pad e).0 ∙ input_replies M key pad (records_of calls) (call_input call)
 
-  -- its reply has a place
-  pub progress_room : length calls < length places → Progress M v u (calls ++ (call ∷ [])) places (set later (length calls) a)
-  progress_room h key pad e = (
+  -- its reply is put into its place
+  pub progress_push : Progress M v u (calls ++ (call ∷ [])) places (set later (length calls) a)
+  progress_push key pad e = (
     stands key pad e,
     ap (λ (xs : List Reply). set xs (length calls) a) (so_far key pad e).1
         ∙ ap (λ (n : ℕ). set (placed (replies_of calls) places) n a) (sym (replies_length calls))
-        ∙ placed_room (replies_of calls) places a (subst (λ (n : ℕ). n < length places) (sym (replies_length calls)) h)
+        ∙ placed_more (replies_of calls) places a
         ∙ ap (λ (xs : List Reply). placed xs places)
         (ap (λ (x : Reply). replies_of calls ++ (x ∷ [])) (reply_is key pad e) ∙ sym (replies_push calls call)),
   )
 
-  -- or it has none
-  pub progress_full : length places ≤ length calls → Progress M v u (calls ++ (call ∷ [])) places later
-  progress_full h key pad e = (
-    stands key pad e,
-    (so_far key pad e).1
-        ∙ placed_full (replies_of calls) places a (subst (λ (n : ℕ). length places ≤ n) (sym (replies_length calls)) h)
-        ∙ ap (λ (xs : List Reply). placed xs places)
-        (ap (λ (x : Reply). replies_of calls ++ (x ∷ [])) (reply_is key pad e) ∙ sym (replies_push calls call)),
-  )
-
--- the call at place i of all calls: its reply is put at place i of the replies, if there is one
+-- the call at place i of all calls
 pub progress_next : (M : Meaning) (v w u : View M) (calls : List Call) (i : ℕ) (d : Call) (places later next : List Reply) (a : Reply) → i < length calls
     → Progress M v w (take i calls) places later → a ≡ input_reply M w (call_input (get_or calls i d)) → u ≡ input_after M w (call_input (get_or calls i d))
-    → ((i < length places) × (next ≡ set later i a)) ⊎ ((length places ≤ i) × (next ≡ later)) → Progress M v u (take (i + 1) calls) places next
-progress_next M v w u calls i d places later next a h so_far replies leaves way =
-    subst (λ (xs : List Call). Progress M v u xs places next) (sym (take_more calls i d h)) (go way)
+    → next ≡ set later i a → Progress M v u (take (i + 1) calls) places next
+progress_next M v w u calls i d places later next a h so_far replies leaves puts =
+    subst (λ (xs : List Call). Progress M v u xs places next) (sym (take_more calls i d h))
+    (subst (Progress M v u (take i calls ++ (get_or calls i d ∷ [])) places) (ap (λ (n : ℕ). set later n a) so_long ∙ sym puts)
+    (progress_push M v w u (take i calls) (get_or calls i d) places later a so_far replies leaves))
   where
     so_long : length (take i calls) ≡ i
     so_long = length-take-le i calls (omega arith)
-
-    go : ((i < length places) × (next ≡ set later i a)) ⊎ ((length places ≤ i) × (next ≡ later)) → Progress M v u (take i calls ++ (get_or calls i d ∷ [])) places next
-    go (inl (room, e)) =
-        subst (Progress M v u (take i calls ++ (get_or calls i d ∷ [])) places) (ap (λ (n : ℕ). set later n a) so_long ∙ sym e)
-        (progress_room M v w u (take i calls) (get_or calls i d) places later a so_far replies leaves (subst (λ (n : ℕ). n < length places) (sym so_long) room))
-    go (inr (none, e)) =
-        subst (Progress M v u (take i calls ++ (get_or calls i d ∷ [])) places) (sym e)
-        (progress_full M v w u (take i calls) (get_or calls i d) places later a so_far replies leaves (subst (λ (n : ℕ). length places ≤ n) (sym so_long) none))

@@ -1,8 +1,15 @@
-// What one byte means in a line: the front of a number, a byte of a name, the letter of an escape.
+// What one byte means in a text: its line feed, the front of a number, a byte of a name, the letter of an escape.
 ghost use Rattle.line_reader.specs.Grammar.{leads, plain, unescaped};
-ghost use Rattle.std.specs.Prelude.{◌≡◌};
+ghost use Rattle.std.specs.Prelude.{◌≡◌, ◌==◌};
 
 use crate::fault::ReadFault;
+
+// Whether the byte ends a line.
+pub(crate) fn feed(b: u8) -> bool
+    ensures { result ≡ (b == 10) }
+{
+    b == b'\n'
+}
 
 // Whether a number may begin with the byte.
 pub(crate) fn leads(b: u8) -> bool

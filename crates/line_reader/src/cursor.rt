@@ -3,7 +3,7 @@
 ghost use Rattle.line_reader.specs.Reading.{told, held, read_word, read_number, read_escape, read_character, read_name, read_kind, past_remark, read_comment, read_zone, read_point, read_rule, read_form, read_end, read_whole};
 ghost use Rattle.std.specs.Prelude.{◌≡◌, [], ◌∷◌, length};
 
-use crate::bytes::{leads, plain, unescaped};
+use crate::bytes::{feed, leads, plain, unescaped};
 use crate::fault::ReadFault;
 use crate::kind::Kind;
 use crate::line::Line;
@@ -133,7 +133,7 @@ impl<'a> Cursor<'a> {
     fn remark(&mut self)
         ensures { past_remark self.old ≡ self.new }
     {
-        let end = self.rest.iter().position(|b| *b == b'\n');
+        let end = self.rest.iter().position(|b| feed(*b));
         self.rest = &self.rest[end.unwrap_or(self.rest.len())..];
     }
 

@@ -5,7 +5,7 @@ ghost use Rattle.line_reader.specs.Handover.{HandoverPromise, MessagesPromise, p
 ghost use Rattle.register.specs.Inputs.{input_after, input_reply};
 ghost use Rattle.register.specs.Values.{view};
 ghost use Rattle.register.specs.View.{opening};
-ghost use Rattle.std.specs.Prelude.{◌≡◌, map, length, replicate};
+ghost use Rattle.std.specs.Prelude.{◌≡◌, map, length, replicate, set};
 
 use crate::calls::{Call, line};
 use crate::fault::LineFault;
@@ -26,6 +26,16 @@ fn serve<F: Family>(register: &mut Register<F>, call: Call) -> Result<usize, Lin
     }
 }
 
+// Puts an answer into its place, if there is one.
+fn put_answer(answers: &mut [Result<usize, LineFault>], i: usize, answer: Result<usize, LineFault>)
+    ensures { answers.new ≡ set answers.old i answer }
+{
+    // By index: of a slice written through `get_mut` a proof knows the length alone.
+    if i < answers.len() {
+        answers[i] = answer;
+    }
+}
+
 // Opens a register by a key buffer, which it leaves zero, makes the calls in order, and closes it: the seal. The answers go into the
 // places in order, as far as there are places.
 pub fn seal_calls<F: Family>(
@@ -38,12 +48,10 @@ pub fn seal_calls<F: Family>(
     ensures cleared { buffer.new ≡ replicate (length buffer.old) 0 }
 {
     let mut register = Register::<F>::open(buffer)?;
+    // Not a `zip`, which would stop at the last place.
     for (i, call) in calls.iter().enumerate() {
         let answer = serve(&mut register, *call);
-        // By index: of a slice written through `get_mut` a proof knows the length alone, and a `zip` would stop at the last place.
-        if i < answers.len() {
-            answers[i] = answer;
-        }
+        put_answer(answers, i, answer);
     }
     Ok(register.close())
 }

@@ -8,6 +8,7 @@ ghost use Rattle.line_reader.specs.Sending.{SendsLines, wiped};
 ghost use Rattle.line_reader.specs.Texts.{TakesLine};
 ghost use Rattle.register.specs.Values.{view};
 
+use crate::bytes::feed;
 use crate::calls::line_into;
 use crate::fault::{MakeFault, Refusal};
 use hashes::family::Family;
@@ -29,7 +30,7 @@ fn line_len(text: &[u8]) -> usize
             return feeds.trailing_zeros() as usize;
         }
     }
-    text.iter().position(|b| *b == b'\n').unwrap_or(text.len())
+    text.iter().position(|b| feed(*b)).unwrap_or(text.len())
 }
 
 // Goes through a text line by line. Not `split_inclusive`: in a generic function the check cannot state a `for` over that.

@@ -1,5 +1,4 @@
-use Rattle.std.proofs.Common.{map, Ok, ap, ◌∙◌, inl, inr, arith, take_all}
-use lib.ListN.{length-map}
+use Rattle.std.proofs.Common.{map, Ok, ap, ◌∙◌, take_all}
 use lib.Seq.{map-set}
 use Rattle.hashes.specs.KeyFault.{answered}
 use Rattle.register.specs.View.{key_of, pad_of, seal, sealed}
@@ -8,20 +7,15 @@ use Rattle.line_reader.specs.Calls.{line_reply}
 use Rattle.line_reader.specs.Handover.{placed, records_of, replies_if, replies_of}
 use Rattle.line_reader.proofs.Progress.{progress_next}
 use Rattle.line_reader.proofs.handover.seal_calls.Goals as goal
-use Rattle.line_reader.proofs.handover.seal_calls.Goals.{then-i-answers, else-i-answers}
 
 pub loop-i-preserved : goal.loop-i-preserved
 loop-i-preserved g c =
     let M = g.F.Family.meaning in
     let answers = c.loop-i.answers in
     let i = c.loop-i.i in
-    let size = length-map c.args.answers.now line_reply in
-    progress_next M _ _ _ c.args.calls.now i _ (map line_reply c.args.answers.now) (map line_reply answers) (map line_reply c.if-i-answers.answers)
+    progress_next M _ _ _ c.args.calls.now i _ (map line_reply c.args.answers.now) (map line_reply answers) _
     (line_reply c.serve-answer.result) c.loop-i-test.true c.loop-i.invariant c.serve-answer.ensures.answers c.serve-answer.ensures.leaves
-    (elim c.if-i-answers.branch [
-      | then-i-answers w ↦ inl (omega (arith, size, c.loop-i.auto.answers, w.if-i-answers.true), ap (map line_reply) w.answers-is ∙ map-set line_reply answers i c.serve-answer.result)
-      | else-i-answers w ↦ inr (omega (arith, size, c.loop-i.auto.answers, w.if-i-answers.false), ap (map line_reply) w.answers-is)
-    ])
+    (ap (map line_reply) c.put_answer.ensures ∙ map-set line_reply answers i c.serve-answer.result)
 
 pub returns : goal.returns
 returns g c =
