@@ -22,7 +22,7 @@ scheme_of_family Evaluation = evaluation_scheme
 abbrev pub picked : ℕ → Answer ℕ
 picked code = cond (code == 1 || (code == 2 || code == 3)) (Ok code) (Err 4)
 
--- an answer of the code by its number
+-- an answer by its number: a family by its code, a fault by its own
 abbrev pub family_answer : Result FamilyCode InputFault → Answer ℕ
 family_answer (Ok family) = Ok (code_of_family family)
 family_answer (Err fault) = Err (number_of_input_fault fault)
