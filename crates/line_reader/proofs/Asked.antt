@@ -27,7 +27,7 @@ read_so line s h = ap reading_input ((readings_exact.sentence line s).1 h)
 asked_only : (line : List ℕ) (input : Input) → Asks line input → line_input line ≡ input
 asked_only line _ (asks_nothing s) = read_so line nothing s
 asked_only line _ (asks_zone {n} {w} {v} s name) = read_so line (zone n w) s ∙ ap (λ (x : List ℕ). a_record (records.zone n x)) (name_decoded w v name)
-asked_only line _ (asks_point {n} {z} {k} s) = read_so line (point n z k) s
+asked_only line _ (asks_point {n} {z} {kind} s) = read_so line (point n z kind) s
 asked_only line _ (asks_rule {z} {n} s) = read_so line (rule z n) s
 asked_only line _ (asks_amiss {f} {c} faulty) = ap reading_input ((readings_exact.fault line f c).1 faulty)
 

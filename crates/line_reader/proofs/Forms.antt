@@ -2,6 +2,7 @@
 use Rattle.std.proofs.Common.{◌≡◌, ℕ, true, false, eqb, ◌≢◌, ◌⊎◌, List, [], ◌∷◌, ◌++◌, Ok, codes, sym, refl, ap, subst, inl, inr, append-nil}
 use Rattle.std.specs.List.{AllByRecursion}
 use Rattle.std.proofs.lemmas.Bool.{cases_Bool, cond_both, eqb-false, ne_eqb}
+use Rattle.line_reader.specs.Codes.{number_of_kind}
 use Rattle.line_reader.specs.Grammar.{spelling, Sentence, nothing, zone, point, rule, Spells, empty_line, comment_line, zone_line, point_line, rule_line, OpensEscape, opens}
 use Rattle.line_reader.specs.Reading.{Stage, and_then, first, read_word, read_number, read_name, read_kind, past_remark, read_comment, read_zone, read_point, read_rule, form, read_form}
 use Rattle.line_reader.proofs.Steady.{Reads, stay, stay_at, stay_end, pass, weaken, by_first, then_reads}
@@ -45,7 +46,7 @@ point_reads =
     then_reads read_number _ (λ w o. absurd o) (number_reads t) (λ v z hz.
     word_then (codes " ") _ (λ t.
     then_reads read_kind _ (λ w o. absurd o) (kind_reads t) (λ w k e t.
-    stay t (Ok (point n z k)) (λ _. refl) (rw (append-nil, e) (point_line hn hz))))))))
+    stay t (Ok (point n z (number_of_kind k))) (λ _. refl) (rw (append-nil, e) (point_line k hn hz))))))))
 
 rule_reads : (text : List ℕ) → Reads read_rule Spells OpensEscape text
 rule_reads =
@@ -79,6 +80,6 @@ pub form_whole : {w : List ℕ} {s : Sentence} → Spells w s → read_form w �
 form_whole empty_line = refl
 form_whole (comment_line t all) = ap (λ r. (r, Ok nothing)) (remark_whole t all)
 form_whole (zone_line {u = u} {w = w} hn hw) = rw (number_whole u (codes " \"" ++ (w ++ codes "\"")) hn refl, name_whole hw [])
-form_whole (point_line {u = u} {v = v} {k = k} hn hz) =
+form_whole (point_line {u = u} {v = v} k hn hz) =
     rw (number_whole u (codes " " ++ (v ++ (codes " " ++ spelling k))) hn refl, number_whole v (codes " " ++ spelling k) hz refl, kind_whole k)
 form_whole (rule_line {u = u} {v = v} hz hn) = rw (number_whole u (codes " " ++ v) hz refl, number_last v hn)

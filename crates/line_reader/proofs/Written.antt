@@ -1,5 +1,5 @@
 -- The line that spells a record is read as it, and the text of records is cut into their lines.
-use Rattle.std.proofs.Common.{◌≡◌, ℕ, zero, suc, ◌<◌, ◌≤◌, Bool, true, false, cond, not, ◌&&◌, ◌||◌, eqb, leb, ◌≢◌, List, [], ◌∷◌, ◌++◌, map, Ok, codes, sym, refl, ap, ◌∙◌, subst, inl, inr, true≢false, arith, lit<}
+use Rattle.std.proofs.Common.{◌≡◌, ℕ, zero, suc, ◌<◌, ◌≤◌, Bool, true, false, cond, not, ◌&&◌, ◌||◌, eqb, leb, ◌≢◌, List, [], ◌∷◌, ◌++◌, map, codes, sym, refl, ap, ◌∙◌, subst, inl, inr, true≢false, arith, lit<}
 use Rattle.std.specs.List.{AllByRecursion}
 use Rattle.std.proofs.ByRecursion.{All-weaker, All-append}
 use Rattle.std.proofs.lemmas.Bool.{and_from, and_parts, not_from_false, le-leb, leb-true, leb-false, eqb-true, eqb-false, ne_eqb, cond-false}
@@ -11,11 +11,10 @@ use Rattle.register.proofs.Rows.{accepted_in_range, accepted_name}
 use Rattle.line_reader.specs.declared.kind.Kind.{Kind}
 use Rattle.line_reader.specs.declared.kind.Kind.TheVariants.{Smoke, Heat, Call, Sounder}
 use Rattle.line_reader.specs.Codes.{number_of_kind}
-use Rattle.line_reader.specs.Grammar.{digit, Number, Name, none, itself, escape, spelling, Sentence, zone, point, rule, Spells, zone_line, point_line, rule_line}
-use Rattle.line_reader.specs.Calls.{reading_input, line_input}
+use Rattle.line_reader.specs.Grammar.{digit, Number, Name, none, itself, escape, spelling, zone_line, point_line, rule_line}
+use Rattle.line_reader.specs.Calls.{Asks, asks_point, asks_rule, asks_zone, line_input}
 use Rattle.line_reader.specs.Texts.{on_first, lines_of, decimal, escaped, kind_of, line_of, text_of}
-use Rattle.line_reader.proofs.Judged.{readings_exact}
-use Rattle.line_reader.proofs.Names.{name_decoded}
+use Rattle.line_reader.proofs.Asked.{lines_exact}
 use Rattle.line_reader.proofs.Decimals.{decimal_number}
 
 -- ---- names
@@ -49,23 +48,19 @@ kind_is (suc (suc (suc (suc (suc k))))) l h = absurd (omega arith)
 
 -- ---- lines
 
-spelled_reads : (line : List ℕ) (s : Sentence) → Spells line s → line_input line ≡ reading_input (Ok s)
-spelled_reads line s h = ap reading_input ((readings_exact.sentence line s).1 h)
-
 -- the line of a record that a book takes asks for it
 pub line_reads : (before : List records.Record) (r : records.Record) → Accepted before r → line_input (line_of r) ≡ a_record r
 line_reads before (records.zone n name) a =
     let h = accepted_in_range before (records.zone n name) a in
     let m = escaped_name name (accepted_name before n name a).2 in
-    spelled_reads (line_of (records.zone n name)) (zone n (escaped name)) (zone_line (decimal_number n h.0 (omega arith)) m)
-    ∙ ap (λ (x : List ℕ). a_record (records.zone n x)) (name_decoded (escaped name) name m)
+    (lines_exact _ _).1 (asks_zone (zone_line (decimal_number n h.0 (omega arith)) m) m)
 line_reads before (records.point n z k) a =
     let h = accepted_in_range before (records.point n z k) a in
-    spelled_reads (line_of (records.point n z k)) (point n z (kind_of k)) (point_line (decimal_number n h.0.0 h.0.1) (decimal_number z h.1.0 (omega arith)))
-    ∙ ap (λ (j : ℕ). a_record (records.point n z j)) (kind_is k h.2.0 h.2.1)
+    let asks = asks_point (point_line (kind_of k) (decimal_number n h.0.0 h.0.1) (decimal_number z h.1.0 (omega arith))) in
+    (lines_exact _ _).1 (subst (λ (j : ℕ). Asks (line_of (records.point n z k)) (a_record (records.point n z j))) (kind_is k h.2.0 h.2.1) asks)
 line_reads before (records.rule z p) a =
     let h = accepted_in_range before (records.rule z p) a in
-    spelled_reads (line_of (records.rule z p)) (rule z p) (rule_line (decimal_number z h.0.0 (omega arith)) (decimal_number p h.1.0 h.1.1))
+    (lines_exact _ _).1 (asks_rule (rule_line (decimal_number z h.0.0 (omega arith)) (decimal_number p h.1.0 h.1.1)))
 
 -- ---- texts
 

@@ -1,5 +1,6 @@
 -- What a call asks of a register, and a line's answer by its number and column.
-use Rattle.std.specs.Prelude.{◌≡◌, ℕ, ◌↔◌, List, Ok, Err, Result}
+use Rattle.std.specs.Prelude.{◌≡◌, ℕ, ◌↔◌, List, [], ◌∷◌, Ok, Err, Result}
+use Rattle.std.specs.Borrow.{Bor}
 use Rattle.register.specs.Faults.{number_of_record_fault}
 use Rattle.register.specs.Records as records
 use Rattle.register.specs.Run.{Input, a_record, no_record, unread, Reply, taken, refused}
@@ -8,8 +9,7 @@ use Rattle.line_reader.specs.declared.calls.Call.TheVariants.{Line, Zone, Point,
 use Rattle.line_reader.specs.declared.fault.LineFault.{LineFault}
 use Rattle.line_reader.specs.declared.fault.LineFault.TheVariants.{Read, Record}
 use Rattle.line_reader.specs.declared.fault.ReadFault.{ReadFault}
-use Rattle.line_reader.specs.declared.kind.Kind.{Kind}
-use Rattle.line_reader.specs.Codes.{number_of_kind, number_of_read_fault}
+use Rattle.line_reader.specs.Codes.{number_of_read_fault}
 use Rattle.line_reader.specs.Grammar.{Faulty, Name, Sentence, Spells, nothing, zone, point, rule}
 use Rattle.line_reader.specs.Reading.{decoded, reading}
 
@@ -17,7 +17,7 @@ use Rattle.line_reader.specs.Reading.{decoded, reading}
 abbrev pub sentence_input : Sentence → Input
 sentence_input nothing = no_record
 sentence_input (zone n name) = a_record (records.zone n (decoded name))
-sentence_input (point n z k) = a_record (records.point n z (number_of_kind k))
+sentence_input (point n z kind) = a_record (records.point n z kind)
 sentence_input (rule z n) = a_record (records.rule z n)
 
 abbrev pub reading_input : Result Sentence (ℕ × ℕ) → Input
@@ -32,7 +32,7 @@ line_input line = reading_input (reading line)
 pub data Asks (line : List ℕ) : Input → Type 0 where
   asks_nothing : Spells line nothing → Asks line no_record
   asks_zone : {n : ℕ} {w v : List ℕ} → Spells line (zone n w) → Name w v → Asks line (a_record (records.zone n v))
-  asks_point : {n z : ℕ} {k : Kind} → Spells line (point n z k) → Asks line (a_record (records.point n z (number_of_kind k)))
+  asks_point : {n z kind : ℕ} → Spells line (point n z kind) → Asks line (a_record (records.point n z kind))
   asks_rule : {z n : ℕ} → Spells line (rule z n) → Asks line (a_record (records.rule z n))
   asks_amiss : {f : ReadFault} {c : ℕ} → Faulty line f c → Asks line (unread (number_of_read_fault f) c)
 
@@ -40,7 +40,20 @@ pub data Asks (line : List ℕ) : Input → Type 0 where
 abbrev pub LinesExact : Type 0
 LinesExact = (line : List ℕ) (input : Input) → (line_input line ≡ input) ↔ Asks line input
 
--- what a call asks for
+-- what a call asks for: a line what it spells, another call its record
+pub data CallAsks : Call → Input → Type 0 where
+  by_line : {line : Bor (List ℕ)} {input : Input} → Asks line.now input → CallAsks (Line line) input
+  by_zone : {n : ℕ} {name : Bor (List ℕ)} → CallAsks (Zone n name) (a_record (records.zone n name.now))
+  by_point : {n z kind : ℕ} → CallAsks (Point n z kind) (a_record (records.point n z kind))
+  by_rule : {z n : ℕ} → CallAsks (Rule z n) (a_record (records.rule z n))
+
+-- calls, and the inputs that they ask for, one each
+pub data CallsAsk : List Call → List Input → Type 0 where
+  no_call : CallsAsk [] []
+  one_more : {call : Call} {calls : List Call} {input : Input} {inputs : List Input} → CallAsks call input → CallsAsk calls inputs →
+      CallsAsk (call ∷ calls) (input ∷ inputs)
+
+-- the same as a function
 abbrev pub call_input : Call → Input
 call_input (Line bytes) = line_input bytes.now
 call_input (Zone n name) = a_record (records.zone n name.now)

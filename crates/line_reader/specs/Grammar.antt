@@ -5,6 +5,7 @@ use Rattle.line_reader.specs.declared.fault.ReadFault.{ReadFault}
 use Rattle.line_reader.specs.declared.fault.ReadFault.TheVariants.{Syntax, Escape}
 use Rattle.line_reader.specs.declared.kind.Kind.{Kind}
 use Rattle.line_reader.specs.declared.kind.Kind.TheVariants.{Smoke, Heat, Call, Sounder}
+use Rattle.line_reader.specs.Codes.{number_of_kind}
 
 -- 0 to 9
 abbrev pub digit : ℕ → Bool
@@ -46,11 +47,11 @@ spelling Heat = codes "heat"
 spelling Call = codes "call"
 spelling Sounder = codes "sounder"
 
--- what a line says; a zone has its name as it is written
+-- what a line says; a zone has its name as it is written, and a point its kind by number
 pub data Sentence : Type 0 where
   nothing : Sentence
   zone : ℕ → List ℕ → Sentence
-  point : ℕ → ℕ → Kind → Sentence
+  point : (n z kind : ℕ) → Sentence
   rule : ℕ → ℕ → Sentence
 
 -- a line, and what it says
@@ -58,7 +59,7 @@ pub data Spells : List ℕ → Sentence → Type 0 where
   empty_line : Spells [] nothing
   comment_line : (t : List ℕ) → AllByRecursion (λ b. b ≢ 10) t → Spells (codes "#" ++ t) nothing
   zone_line : {n : ℕ} {u w v : List ℕ} → Number u n → Name w v → Spells (codes "zone " ++ (u ++ (codes " \"" ++ (w ++ codes "\"")))) (zone n w)
-  point_line : {n z : ℕ} {u v : List ℕ} {k : Kind} → Number u n → Number v z → Spells (codes "point " ++ (u ++ (codes " " ++ (v ++ (codes " " ++ spelling k))))) (point n z k)
+  point_line : {n z : ℕ} {u v : List ℕ} (k : Kind) → Number u n → Number v z → Spells (codes "point " ++ (u ++ (codes " " ++ (v ++ (codes " " ++ spelling k))))) (point n z (number_of_kind k))
   rule_line : {z n : ℕ} {u v : List ℕ} → Number u z → Number v n → Spells (codes "rule " ++ (u ++ (codes " " ++ v))) (rule z n)
 
 -- w begins a word of the language L, each word of which has a value

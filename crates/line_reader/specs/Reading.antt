@@ -7,7 +7,7 @@ use Rattle.line_reader.specs.declared.kind.Kind.{Kind}
 use Rattle.line_reader.specs.declared.kind.Kind.TheVariants.{Smoke, Heat, Call, Sounder}
 use Rattle.line_reader.specs.declared.line.Line.{Line}
 use Rattle.line_reader.specs.declared.line.Line.TheVariants.{Blank, Zone, Point, Rule}
-use Rattle.line_reader.specs.Codes.{number_of_read_fault}
+use Rattle.line_reader.specs.Codes.{number_of_kind, number_of_read_fault}
 use Rattle.line_reader.specs.Grammar.{digit, leads, plain, unescaped, spelling, Sentence, nothing, zone, point, rule}
 
 -- what a stage leaves of a text, and its answer
@@ -98,7 +98,7 @@ read_point text =
     and_then (read_word (codes " ") t) (λ _ t.
     and_then (read_number t) (λ z t.
     and_then (read_word (codes " ") t) (λ _ t.
-    and_then (read_kind t) (λ k t. (t, Ok (point n z k))))))))
+    and_then (read_kind t) (λ k t. (t, Ok (point n z (number_of_kind k)))))))))
 
 abbrev pub read_rule : List ℕ → Stage Sentence
 read_rule text =
@@ -135,7 +135,7 @@ reading line = reading_by line (read_whole line)
 abbrev pub said : Line → Sentence
 said Blank = nothing
 said (Zone n name) = zone n name.now
-said (Point n z k) = point n z k
+said (Point n z k) = point n z (number_of_kind k)
 said (Rule z n) = rule z n
 
 abbrev pub told : Result Line ReadFault → Result Sentence ReadFault

@@ -1,7 +1,7 @@
 // Two sites sealed by calls on two new registers, and what their seals are worth.
 ghost use Rattle.hashes.specs.KeyFault.{opened};
-ghost use Rattle.line_reader.specs.Calls.{LinesExact, call_input, line_reply};
-ghost use Rattle.line_reader.specs.Handover.{HandoverPromise, MessagesPromise, placed, replies_if, sealing};
+ghost use Rattle.line_reader.specs.Calls.{call_input, line_reply};
+ghost use Rattle.line_reader.specs.Handover.{HandoverPromise, placed, replies_if, sealing};
 ghost use Rattle.register.specs.Inputs.{input_after, input_reply};
 ghost use Rattle.register.specs.Values.{view};
 ghost use Rattle.register.specs.View.{opening};
@@ -72,9 +72,7 @@ pub fn handover<F: Family>(
     ensures seals2 { opened (λ s. s) result.1 ≡ sealing F.meaning buffer2.old calls2.now }
     ensures replies2 { map line_reply answers2.new ≡ placed (replies_if (opening F.meaning buffer2.old) calls2.now) (map line_reply answers2.old) }
     ensures cleared2 { buffer2.new ≡ replicate (length buffer2.old) 0 }
-    ensures lines { LinesExact }
     ensures promise { HandoverPromise F.meaning }
-    ensures messages { MessagesPromise F.meaning }
 {
     (
         seal_calls::<F>(buffer, calls, answers),

@@ -29,7 +29,7 @@ pads_out a b p q d e =
     sym (xor_zero_r (bit_xor a b)) ∙ ap (bit_xor (bit_xor a b)) (sym (xor_self (bit_xor p q)))
     ∙ sym (xor_assoc (bit_xor a b) (bit_xor p q) (bit_xor p q)) ∙ ap (λ x. bit_xor x (bit_xor p q)) (xor_swap a b p q ∙ e)
 
-at_most_weaker : (M : Meaning) (n : ℕ) (P Q : List ℕ → Type 0) → ((key : List ℕ) → Key M key → P key → Q key) → AtMost M n Q → AtMost M n P
+pub at_most_weaker : (M : Meaning) (n : ℕ) (P Q : List ℕ → Type 0) → ((key : List ℕ) → Key M key → P key → Q key) → AtMost M n Q → AtMost M n P
 at_most_weaker M n P Q f h keys once all = h keys once (All-weaker _ _ (λ key k. (k.0, f key k.0 k.1)) keys all)
 
 pub book_bytes : (rs : List Record) → BookRecords rs → Bytes (message rs)

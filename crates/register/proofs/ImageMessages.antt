@@ -1,12 +1,12 @@
 -- An image's message, by its definition and by the function; and the message of an image of records.
-use Rattle.std.proofs.Common.{◌≡◌, ℕ, zero, suc, ◌≤◌, Bool, true, false, cond, ◌⊎◌, List, [], ◌∷◌, ◌++◌, map, length, Some, None, Decides, Option, sym, refl, ap, ◌∙◌, subst, inl, inr, append_assoc, append-nil, arith}
+use Rattle.std.proofs.Common.{◌≡◌, ℕ, zero, suc, ◌≤◌, Bool, true, false, cond, ◌⊎◌, ◌↔◌, List, [], ◌∷◌, ◌++◌, map, length, Some, None, Decides, Option, sym, refl, ap, ◌∙◌, subst, inl, inr, append_assoc, append-nil, arith, length-append}
 use Rattle.std.specs.List.{AllByRecursion}
 use Rattle.std.proofs.lemmas.Bool.Decides.{not_from_Decides}
 use Rattle.hashes.specs.Word.{Bytes}
 use Rattle.register.specs.Records.{Record, zone, point, rule, Field, field, bytes_of, field_of, message}
 use Rattle.register.specs.Fields.{next_field, is_seal}
 use Rattle.register.specs.Image.{seal_field, image}
-use Rattle.register.specs.ImageMessage.{SealField, fields_bytes, BeforeSeal, message_at, message_from, message_of}
+use Rattle.register.specs.ImageMessage.{SealField, fields_bytes, BeforeSeal, MessageOf, everything, in_front, message_at, message_from, message_of}
 use Rattle.register.proofs.Bytes.{bytes_right}
 use Rattle.register.proofs.Encoding.{next_field_reads, field_read}
 use Rattle.register.proofs.Images.{decides_seal, field_shorter}
@@ -33,7 +33,7 @@ walk (f ∷ fs) s rest h k (suc fuel) bytes l e =
     let n = field_shorter bytes f left begins in
     rw (ap next_field begins ∙ next_field_reads f left, not_seal f h.0, walk fs s rest h.1 k fuel left (omega arith) refl)
 
-pub message_before : (image m : List ℕ) → BeforeSeal image m → message_of image ≡ m
+message_before : (image m : List ℕ) → BeforeSeal image m → message_of image ≡ m
 message_before image m b = walk b.fields b.seal b.rest b.others b.is_one (length image) image (omega arith) b.split ∙ sym b.same
 
 -- the walk finds a seal field, or goes to the end
@@ -69,12 +69,27 @@ walked (suc fuel) bytes bs = go (walked fuel) (next_field bytes) refl
         at true q = inl (record { fields = []; others = tt; seal = f; is_one = (decides_seal_field f).0 q; rest = p.1; split = whole; same = refl })
         at false q = past q (below p.1 (bytes_right (bytes_of f) p.1 (subst Bytes whole bs)))
 
-pub message_whole : (image : List ℕ) → Bytes image → ((m : List ℕ) → ¬ BeforeSeal image m) → message_of image ≡ image
-message_whole image bs n = go (walked (length image) image bs)
+-- an image that is all message has no seal field
+no_seal_field : (image m : List ℕ) → BeforeSeal image m → message_of image ≡ image → ⊥
+no_seal_field image m b e = longer b.seal (ap length (sym e ∙ message_before image m b ∙ b.same) ∙ refl) (ap length b.split)
   where
-    go : BeforeSeal image (message_of image) ⊎ (message_of image ≡ image) → message_of image ≡ image
-    go (inl b) = absurd (n (message_of image) b)
-    go (inr e) = e
+    longer : (seal : Field) → length image ≡ length (fields_bytes b.fields) → length image ≡ length (fields_bytes b.fields ++ (bytes_of seal ++ b.rest)) → ⊥
+    longer (field tag value) short long = omega (arith, short, long, length-append (fields_bytes b.fields) (bytes_of (field tag value) ++ b.rest))
+
+pub message_agrees : (image m : List ℕ) → Bytes image → (message_of image ≡ m) ↔ MessageOf image m
+message_agrees image m bs = (λ e. subst (MessageOf image) e (found (walked (length image) image bs)), only m)
+  where
+    found : BeforeSeal image (message_of image) ⊎ (message_of image ≡ image) → MessageOf image (message_of image)
+    found (inl b) = in_front b
+    found (inr e) = subst (MessageOf image) (sym e) (everything (λ n b. no_seal_field image n b e))
+
+    whole : ((n : List ℕ) → ¬ BeforeSeal image n) → BeforeSeal image (message_of image) ⊎ (message_of image ≡ image) → message_of image ≡ image
+    whole none (inl b) = absurd (none (message_of image) b)
+    whole none (inr e) = e
+
+    only : (n : List ℕ) → MessageOf image n → message_of image ≡ n
+    only n (in_front b) = message_before image n b
+    only _ (everything none) = whole none (walked (length image) image bs)
 
 -- the fields of records are no seal fields
 record_field : (r : Record) → ¬ SealField (field_of r)

@@ -11,7 +11,7 @@ use Rattle.register.specs.View.{View, standing, reply, after, sealed, key_of, pa
 use Rattle.register.specs.Writing.{put, filled_up, Holds, output_after}
 use Rattle.register.specs.Inputs.{input_reply, input_after, input_output}
 use Rattle.register.specs.Image.{Unframed, FramingFault, Outcome, Checks, check}
-use Rattle.register.specs.ImageMessage.{BeforeSeal, message_of}
+use Rattle.register.specs.ImageMessage.{MessageOf, message_of}
 use Rattle.register.specs.Check.{Passes}
 
 pub record RegisterFacts (M : Meaning) : Type 0 where
@@ -46,9 +46,8 @@ pub record RegisterFacts (M : Meaning) : Type 0 where
   pub one_check : (code : ℕ) (image : List ℕ) (o : Outcome) → Bytes image → Checks code [] image 0 o → check code image ≡ o
   -- bytes begin with no field of an image for one of three causes
   pub framing_agrees : (bytes : List ℕ) → Bytes bytes → Unframed bytes ↔ FramingFault bytes
-  -- an image's message stands before its first seal field; an image without one is its own message
-  pub message_before : (image m : List ℕ) → BeforeSeal image m → message_of image ≡ m
-  pub message_whole : (image : List ℕ) → Bytes image → ((m : List ℕ) → ¬ BeforeSeal image m) → message_of image ≡ image
+  -- an image has one message, which `message_of` gives
+  pub message_agrees : (image m : List ℕ) → Bytes image → (message_of image ≡ m) ↔ MessageOf image m
   -- of a name the first 41 bytes decide what a call with it does
   pub long_name : (v : View M) (n : ℕ) (name out : List ℕ) →
       (reply M v (zone n (take 41 name)) ≡ reply M v (zone n name)) × (after M v (zone n (take 41 name)) ≡ after M v (zone n name))

@@ -23,6 +23,11 @@ pub record BeforeSeal (image m : List ℕ) : Type 0 where
   pub split : image ≡ fields_bytes fields ++ (bytes_of seal ++ rest)
   pub same : m ≡ fields_bytes fields
 
+-- what an image's message is
+pub data MessageOf (image : List ℕ) : List ℕ → Type 0 where
+  in_front : {m : List ℕ} → BeforeSeal image m → MessageOf image m
+  everything : ((m : List ℕ) → ¬ BeforeSeal image m) → MessageOf image image
+
 -- The same as a function, with the length as a bound for the number of fields.
 
 abbrev pub message_at : List ℕ → (List ℕ → List ℕ) → Option (Field × List ℕ) → List ℕ

@@ -1,7 +1,7 @@
 use Rattle.std.proofs.Common.{[], length, arith}
 use Rattle.register.proofs.Checked.{opened_is}
 use Rattle.register.proofs.Encoding.{message_inj}
-use Rattle.register.proofs.ImageMessages.{message_before, message_whole}
+use Rattle.register.proofs.ImageMessages.{message_agrees}
 use Rattle.register.proofs.Images.{check_is, check_only, unframed_iff}
 use Rattle.register.proofs.LongNames.{long_name}
 use Rattle.register.proofs.Rows.{refusal_iff, accepted_iff, accepted_in_range, accepted_name}
@@ -28,7 +28,6 @@ returns g c = record {
   check_agrees = λ code image bs. check_is code (length image) [] image 0 (omega arith) bs;
   one_check = λ code image o bs h. check_only code (length image) [] image 0 o (omega arith) bs h;
   framing_agrees = unframed_iff;
-  message_before = message_before;
-  message_whole = message_whole;
+  message_agrees = message_agrees;
   long_name = long_name g.F.Family.meaning;
 }
