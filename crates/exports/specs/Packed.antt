@@ -1,17 +1,23 @@
 -- Answers of the exported functions, each as one number.
 use Rattle.std.specs.Prelude.{ℕ, ◌+◌, ◌-◌, ◌*◌, ◌^◌, min, cond, List, Ok, Err, Result, ◌==◌}
+use Rattle.std.specs.Int.{bytes_high_first}
 use Rattle.hashes.specs.Division.{division_family}
 use Rattle.hashes.specs.Evaluation.{evaluation_family}
+use Rattle.hashes.specs.Family.{Meaning}
 use Rattle.hashes.specs.KeyFault.{Answer}
 use Rattle.hashes.specs.Toeplitz.{toeplitz_family}
 use Rattle.register.specs.Check.{Verdict, says, faulted}
 use Rattle.register.specs.Writing.{put}
-use Rattle.line_reader.specs.Making.{Making, bytes_of_word, made, unmade}
-use Rattle.line_reader.specs.SiteInput.{SiteSeal}
+use Rattle.line_reader.specs.Making.{Making, made, unmade}
+use Rattle.line_reader.specs.SiteInput.{InputAnswer}
 
 -- the choice by a family's code
 abbrev pub by_code : {A : Type 0} → ℕ → A → A → A → A → A
 by_code code division toeplitz evaluation other = cond (code == 1) division (cond (code == 2) toeplitz (cond (code == 3) evaluation other))
+
+-- what is so of the family with the code
+abbrev pub by_family : {A : Type 0} → ℕ → (Meaning → A) → A → A
+by_family code f other = by_code code (f division_family) (f toeplitz_family) (f evaluation_family) other
 
 -- 0 where something is taken, or the number of the refusal
 abbrev pub refusal_number : {A : Type 0} → Answer A → ℕ
@@ -52,14 +58,14 @@ no_image room = unmade room 4 0 0
 -- what making by a code answers, and the output after it
 abbrev pub made_by_code : ℕ → List ℕ → List ℕ → ℕ → Making
 made_by_code code buffer text room =
-    by_code code (made division_family buffer text room) (made toeplitz_family buffer text room) (made evaluation_family buffer text room) (no_image room)
+    by_family code (λ M. made M buffer text room) (no_image room)
 
 -- the answer of the program: the image's length, or a refusal
-abbrev pub packed_seal : SiteSeal → ℕ
+abbrev pub packed_seal : InputAnswer → ℕ
 packed_seal (Ok s) = s.0
 packed_seal (Err e) = packed_length (Err e)
 
 -- the place of the seal after it
-abbrev pub seal_after : SiteSeal → List ℕ → List ℕ
-seal_after (Ok s) place = put place 0 (bytes_of_word s.1)
+abbrev pub seal_after : InputAnswer → List ℕ → List ℕ
+seal_after (Ok s) place = put place 0 (bytes_high_first 8 s.1)
 seal_after (Err e) place = place

@@ -1,17 +1,13 @@
-// The libraries behind functions on numbers and byte slices that other languages can call. The benchmark is built on them.
-// Codes and flags are numbers here, and a part of no bytes is a message at once: C may hand over any number, and an enum or a `bool` may hold only
-// its own. Answers are one number each, 0 for no hash and for no refusal, since C has no `Result`; the private functions pack them already. Buffers are handed over singly, as slices, and each function
-// that zeroes one says so itself.
+// The libraries behind functions on numbers and byte strings that other languages can call. The benchmark is built on them.
+// Other languages can hand over any number, so codes and flags are numbers here, and no enum or `bool`; an answer is one number, since C has no
+// `Result`. Each buffer is an argument of its own, and a function that zeroes one says so itself.
 #![tactic(auto)]
 
 ghost use Rattle.std.specs.Prelude.{◌≡◌, ◌+◌, ◌^◌, ◌<◌, length, replicate, if◌then◌else◌};
-ghost use Rattle.exports.specs.Packed.{by_code, hash_or_zero, line_and_column, made_by_code, no_image, packed, packed_length, packed_seal, packed_verdict, refusal_number, seal_after};
-ghost use Rattle.hashes.specs.Division.{division_family};
-ghost use Rattle.hashes.specs.Evaluation.{evaluation_family};
+ghost use Rattle.exports.specs.Packed.{by_family, hash_or_zero, line_and_column, made_by_code, no_image, packed, packed_length, packed_seal, packed_verdict, refusal_number, seal_after};
 ghost use Rattle.hashes.specs.Irreducible.{irreducible_by_trial};
 ghost use Rattle.hashes.specs.KeyFault.{family_opening, hashing, opened};
-ghost use Rattle.hashes.specs.Toeplitz.{toeplitz_family};
-ghost use Rattle.line_reader.specs.SiteInput.{site_seal};
+ghost use Rattle.line_reader.specs.SiteInput.{input_answer};
 ghost use Rattle.register.specs.Check.{checked, faulted};
 
 use hashes::division::Division;
@@ -56,7 +52,7 @@ fn open_either<F: Family>(gathered: bool, key: &[u8]) -> u8
 // 0 for a key of the family with this code, else the number by which it is refused; 4 where there is no such family.
 #[unsafe(no_mangle)]
 pub extern "C" fn waq_open(code: u8, gathered: u8, key: &[u8]) -> u8
-    ensures { result ≡ by_code code (refusal_number (family_opening division_family key.now)) (refusal_number (family_opening toeplitz_family key.now)) (refusal_number (family_opening evaluation_family key.now)) 4 }
+    ensures { result ≡ by_family code (λ M. refusal_number (family_opening M key.now)) 4 }
 {
     // Each arm here and below names a function at its family. One switch for all would need a trait
     // with a struct and an `impl` for each of the functions.
@@ -99,7 +95,7 @@ fn hash_either<F: Family>(gathered: bool, key: &[u8], message: &[u8], part: usiz
 // The hash of a message by the family with this code; 0 where the key is none, or there is no such family.
 #[unsafe(no_mangle)]
 pub extern "C" fn waq_hash(code: u8, gathered: u8, key: &[u8], message: &[u8], part: usize) -> u64
-    ensures { result ≡ by_code code (hash_or_zero (hashing division_family key.now message.now)) (hash_or_zero (hashing toeplitz_family key.now message.now)) (hash_or_zero (hashing evaluation_family key.now message.now)) 0 }
+    ensures { result ≡ by_family code (λ M. hash_or_zero (hashing M key.now message.now)) 0 }
 {
     // A switch at each function, as in `waq_open`.
     match FamilyCode::try_from(code) {
@@ -186,7 +182,7 @@ fn check_bits<F: Family>(buffer: &mut [u8], image: &[u8]) -> u64
 // Checks an image: 1 or 0, or a refusal.
 #[unsafe(no_mangle)]
 pub extern "C" fn waq_check(code: u8, buffer: &mut [u8], image: &[u8]) -> u64
-    ensures answers { result ≡ packed_verdict (by_code code (checked division_family buffer.old image.now) (checked toeplitz_family buffer.old image.now) (checked evaluation_family buffer.old image.now) (faulted 4 0)) }
+    ensures answers { result ≡ packed_verdict (by_family code (λ M. checked M buffer.old image.now) (faulted 4 0)) }
     ensures cleared { buffer.new ≡ replicate (length buffer.old) 0 }
 {
     // A switch at each function, as in `waq_open`.
@@ -204,8 +200,8 @@ pub extern "C" fn waq_check(code: u8, buffer: &mut [u8], image: &[u8]) -> u64
 // The program's answer to a whole input, which is zeroed: the image's length, with the seal in eight bytes where there are so many, or a refusal.
 #[unsafe(no_mangle)]
 pub extern "C" fn waq_seal(input: &mut [u8], seal: &mut [u8]) -> u64
-    ensures answers { result ≡ packed_seal (site_seal input.old) }
-    ensures writes { seal.new ≡ seal_after (site_seal input.old) seal.old }
+    ensures answers { result ≡ packed_seal (input_answer input.old) }
+    ensures writes { seal.new ≡ seal_after (input_answer input.old) seal.old }
     ensures cleared { input.new ≡ replicate (length input.old) 0 }
 {
     // No `map`: where its closure is not called, a proof knows nothing of what it would have written.

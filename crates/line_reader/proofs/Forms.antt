@@ -2,7 +2,7 @@
 use Rattle.std.proofs.Common.{◌≡◌, ℕ, true, false, eqb, ◌≢◌, ◌⊎◌, List, [], ◌∷◌, ◌++◌, Ok, codes, sym, refl, ap, subst, inl, inr, append-nil}
 use Rattle.std.specs.List.{AllByRecursion}
 use Rattle.std.proofs.lemmas.Bool.{cases_Bool, cond_both, eqb-false, ne_eqb}
-use Rattle.line_reader.specs.Codes.{number_of_kind}
+use Rattle.line_reader.specs.Numbers.{number_of_kind}
 use Rattle.line_reader.specs.Grammar.{spelling, Sentence, nothing, zone, point, rule, Spells, empty_line, comment_line, zone_line, point_line, rule_line, OpensEscape, opens}
 use Rattle.line_reader.specs.Reading.{Stage, and_then, first, read_word, read_number, read_name, read_kind, past_remark, read_comment, read_zone, read_point, read_rule, form, read_form}
 use Rattle.line_reader.proofs.Steady.{Reads, stay, stay_at, stay_end, pass, weaken, by_first, then_reads}

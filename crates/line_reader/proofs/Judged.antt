@@ -3,7 +3,7 @@ use Rattle.std.proofs.Common.{◌≡◌, ℕ, zero, suc, ◌-◌, ◌<◌, ◌�
 use Rattle.std.proofs.lemmas.Bool.{cases_lt}
 use Rattle.line_reader.specs.declared.fault.ReadFault.{ReadFault}
 use Rattle.line_reader.specs.declared.fault.ReadFault.TheVariants.{Syntax, Escape}
-use Rattle.line_reader.specs.Codes.{number_of_read_fault}
+use Rattle.line_reader.specs.Numbers.{number_of_read_fault}
 use Rattle.line_reader.specs.Grammar.{Sentence, Spells, Begins, Column, OpensEscape, Faults, Faulty}
 use Rattle.line_reader.specs.Reading.{Stage, and_then, read_form, read_end, read_whole, reading}
 use Rattle.line_reader.specs.Exact.{ReadingsExact}

@@ -1,5 +1,6 @@
 -- From the lines of a text to its image.
 use Rattle.std.proofs.Common.{◌≡◌, ℕ, ◌+◌, ◌-◌, ◌<◌, ◌≤◌, Bool, true, false, cond, leb, List, [], ◌++◌, length, replicate, Ok, Err, Result, sym, ap, ◌∙◌, ap₂, append-nil, arith, length-append}
+use Rattle.std.specs.Int.{bytes_high_first}
 use Rattle.std.proofs.lemmas.Bool.{le-leb, lt-leb}
 use Rattle.hashes.specs.Family.{Meaning}
 use Rattle.register.specs.Image.{seal_field}
@@ -7,7 +8,7 @@ use Rattle.register.specs.Records.{Record, bytes_of, message}
 use Rattle.register.specs.View.{View, key_of, opening, pad_of, sealed}
 use Rattle.register.specs.Writing.{Holds, filled_up, put}
 use Rattle.register.proofs.Writings.{put_more}
-use Rattle.line_reader.specs.Making.{Making, all_taken, Sent, bytes_of_word, made, made_by, making, sealed_image, sent, unmade}
+use Rattle.line_reader.specs.Making.{Making, all_taken, Sent, made, made_by, making, sealed_image, sent, unmade}
 use Rattle.line_reader.specs.Texts.{lines_of}
 
 -- of a buffer that opens
@@ -23,7 +24,7 @@ done n out = (Ok n, out)
 module _ (M : Meaning) (k : List ℕ) (pad room : ℕ) (rs : List Record) where
   -- the seal field has twelve bytes
   image_length : length (sealed_image M k pad rs) ≡ length (message rs) + 12
-  image_length = length-append (message rs) (bytes_of (seal_field M.code (bytes_of_word (sealed M k pad rs))))
+  image_length = length-append (message rs) (bytes_of (seal_field M.code (bytes_high_first 8 (sealed M k pad rs))))
 
   -- the choice by the room
   abbrev by_room : Bool → Making
@@ -35,11 +36,11 @@ module _ (M : Meaning) (k : List ℕ) (pad room : ℕ) (rs : List Record) where
 
   -- there is enough
   pub making_fits : (out later : List ℕ) → Holds room rs out → length (message rs) + 12 ≤ room
-      → later ≡ put out (length (message rs)) (bytes_of (seal_field M.code (bytes_of_word (sealed M k pad rs))))
+      → later ≡ put out (length (message rs)) (bytes_of (seal_field M.code (bytes_high_first 8 (sealed M k pad rs))))
       → (Ok (length (message rs) + 12), later) ≡ making M k pad room (all_taken rs)
   making_fits out later holds h e =
       ap₂ done (sym image_length)
-      (e ∙ put_more room (message rs) (bytes_of (seal_field M.code (bytes_of_word (sealed M k pad rs)))) out (omega (arith, h, image_length)) (holds (omega arith)))
+      (e ∙ put_more room (message rs) (bytes_of (seal_field M.code (bytes_high_first 8 (sealed M k pad rs)))) out (omega (arith, h, image_length)) (holds (omega arith)))
       ∙ sym (ap by_room (le-leb (length (sealed_image M k pad rs)) room (omega (arith, h, image_length))))
 
 own_filled_up : (i : List ℕ) → filled_up (length i) i ≡ i

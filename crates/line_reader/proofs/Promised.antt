@@ -1,8 +1,6 @@
 -- The promise holds, from a family's law alone.
 use Rattle.std.proofs.Common.{◌≡◌, List, [], ◌∷◌, ◌++◌, map, sym, refl, ap, ap₂, subst}
 use Rattle.hashes.specs.Family.{Lawful, Meaning}
-use Rattle.hashes.specs.Word.{Bytes}
-use Rattle.register.specs.ImageMessage.{MessageOf, message_of}
 use Rattle.register.specs.Records.{Record}
 use Rattle.register.specs.Run.{Input, Reply, Run}
 use Rattle.register.proofs.Bounds.{at_most_weaker, images, messages, seals}

@@ -21,7 +21,7 @@ use Rattle.line_reader.specs.Making.{Sent, all_taken, stopped, sent}
 use Rattle.line_reader.specs.declared.family_code.FamilyCode.{FamilyCode}
 use Rattle.line_reader.specs.declared.family_code.FamilyCode.TheVariants.{Division, Toeplitz, Evaluation}
 use Rattle.line_reader.specs.FamilyCodes.{code_of_family, family_answer, picked, scheme_of_family}
-use Rattle.line_reader.specs.SiteInput.{Scheme, SiteSeal, code_of, division_scheme, evaluation_scheme, input_limit, no_seal, scheme_by, scheme_of, seal_by, seal_by_scheme, seal_of_lines, seal_of_parts, site_seal, toeplitz_scheme, unless_refused_key}
+use Rattle.line_reader.specs.SiteInput.{Scheme, InputAnswer, code_of, division_scheme, evaluation_scheme, longest_input, no_seal, scheme_by, scheme_of, seal_by, seal_by_scheme, seal_of_lines, seal_of_parts, input_answer, toeplitz_scheme, unless_refused_key}
 use Rattle.line_reader.specs.Texts.{lines_of}
 use Rattle.line_reader.proofs.Fronts.{rest_of}
 use Rattle.line_reader.proofs.TextsPass.{sent_book}
@@ -29,7 +29,7 @@ use Rattle.line_reader.proofs.TextsPass.{sent_book}
 -- ---- by the meaning
 
 -- a buffer that is taken, by its key
-taken_key : {V : Type 0} (v w : V) (o : Option ℕ) (later : SiteSeal) → Ok w ≡ judged v o → (w ≡ v) × (later ≡ unless_refused_key o later)
+taken_key : {V : Type 0} (v w : V) (o : Option ℕ) (later : InputAnswer) → Ok w ≡ judged v o → (w ≡ v) × (later ≡ unless_refused_key o later)
 taken_key v w None later e = (cc, refl)
 taken_key v w (Some m) later e = let z : ◌≡◌ {A = ℕ} 0 1 = cc in absurd (omega arith)
 
@@ -95,7 +95,7 @@ module _ (n : ℕ) (refusal : List ℕ → Option ℕ) (f g : List ℕ → List 
       (same (take n rest) (message rs) (All-take (λ (b : ℕ). b < 256) n rest bytes) l (book_bytes rs (sent_book lines 1 rs e)))
   lines_agree pad lines l (stopped number line column) e = refl
 
-  by_length : (b : Bool) → leb (n + 8) (length rest) ≡ b → (s t : SiteSeal) → (length (take n rest) ≡ n → s ≡ t)
+  by_length : (b : Bool) → leb (n + 8) (length rest) ≡ b → (s t : InputAnswer) → (length (take n rest) ≡ n → s ≡ t)
       → cond b s (no_seal 1) ≡ cond b t (no_seal 1)
   by_length true e s t h = h (omega (arith, length-take n rest, leb-true (n + 8) (length rest) e))
   by_length false e s t h = refl
@@ -123,18 +123,18 @@ family_picks Toeplitz code e = ap scheme_by (sym e)
 family_picks Evaluation code e = ap scheme_by (sym e)
 
 -- an input that is not too long
-seal_within : (input : List ℕ) → length input ≤ input_limit → (o : Option ℕ) → o ≡ code_of input → seal_of_parts o (drop 1 input) ≡ site_seal input
+seal_within : (input : List ℕ) → length input ≤ longest_input → (o : Option ℕ) → o ≡ code_of input → seal_of_parts o (drop 1 input) ≡ input_answer input
 seal_within input short o e =
     ap (λ (c : Option ℕ). seal_of_parts c (drop 1 input)) e
-    ∙ ap (λ (b : Bool). cond b (seal_of_parts (code_of input) (drop 1 input)) (no_seal 5)) (sym (le-leb (length input) input_limit short))
+    ∙ ap (λ (b : Bool). cond b (seal_of_parts (code_of input) (drop 1 input)) (no_seal 5)) (sym (le-leb (length input) longest_input short))
 
 picks_own : (k code : ℕ) (b : Bool) → ◌≡◌ {A = Answer ℕ} (Ok k) (cond b (Ok code) (Err 4)) → k ≡ code
 picks_own k code true e = cc
 picks_own k code false e = let z : ◌≡◌ {A = ℕ} 0 1 = cc in absurd (omega arith)
 
 -- whose code picks a family
-pub seal_by_code : (input : List ℕ) (code : ℕ) (family : FamilyCode) (answer : SiteSeal) → length input ≤ input_limit → Bytes input → Some code ≡ code_of input → family_answer (Ok family) ≡ picked code
-    → (Bytes (rest_of input) → answer ≡ seal_by_scheme (scheme_of_family family) (rest_of input)) → answer ≡ site_seal input
+pub seal_by_code : (input : List ℕ) (code : ℕ) (family : FamilyCode) (answer : InputAnswer) → length input ≤ longest_input → Bytes input → Some code ≡ code_of input → family_answer (Ok family) ≡ picked code
+    → (Bytes (rest_of input) → answer ≡ seal_by_scheme (scheme_of_family family) (rest_of input)) → answer ≡ input_answer input
 seal_by_code input code family answer short bytes first picks h =
     let rest : rest_of input ≡ drop 1 input = between_to_end input 1 (length input) (omega arith) in
     h (subst Bytes (sym rest) (All-drop (λ (b : ℕ). b < 256) 1 input bytes))

@@ -9,7 +9,7 @@ use Rattle.hashes.specs.Irreducible.{Irreducible}
 use Rattle.hashes.specs.Polynomial.{degree, horner, horner_within, reduce, remainder, remainder_at, times, times_mod}
 use Rattle.hashes.specs.Toeplitz.{bit, bits, byte_bits, chosen, lfsr, message_bits, parity, state, toeplitz, toeplitz_hash}
 use Rattle.hashes.specs.DivisionFamily.{division_facts}
-use Rattle.line_reader.specs.SiteInput.{no_seal, site_seal, unless_refused_key}
+use Rattle.line_reader.specs.SiteInput.{no_seal, input_answer, unless_refused_key}
 use Rattle.line_reader.specs.WorkedSums.{WorkedSums, input_by, zone_seven}
 
 division_none : division_hash 0x1B [] ≡ 0x1B
@@ -56,11 +56,11 @@ reducible : Irreducible (2 ^ 64 + 5) → ⊥
 reducible i =
     i.no_divisor (2 ^ 32 + 3) (omega (arith, root_degree)) (omega (arith, root_degree, square_degree)) (record { quotient = 2 ^ 32 + 3; product = square })
 
-sealed_zone : site_seal (input_by 3 1 (codes "zone 7 \"A\"" ++ (0x0A ∷ []))) ≡ Ok (18, 0x0100030007418001)
+sealed_zone : input_answer (input_by 3 1 (codes "zone 7 \"A\"" ++ (0x0A ∷ []))) ≡ Ok (18, 0x0100030007418001)
 unfolding evaluation words powers_sum power times_mod times remainder remainder_at horner horner_within reduce degree
 sealed_zone = refl
 
-no_key : site_seal (input_by 1 5 []) ≡ no_seal 3
+no_key : input_answer (input_by 1 5 []) ≡ no_seal 3
 no_key =
     ap (λ (o : Option ℕ). unless_refused_key o (Ok (12, bit_xor (division_hash 5 []) 0))) ((division_facts.others (replicate 7 0 ++ (5 ∷ []))).1 reducible)
 

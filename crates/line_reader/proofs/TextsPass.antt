@@ -1,5 +1,6 @@
 -- The check passes an image exactly when some text makes it.
 use Rattle.std.proofs.Common.{◌≡◌, ℕ, ◌+◌, ◌^◌, ◌<◌, Bool, true, false, cond, eqb, List, [], ◌∷◌, ◌++◌, map, length, drop, Some, None, Ok, Option, sym, refl, ap, ◌∙◌, subst, append_assoc, append-nil, arith, length-drop, length-take, Err}
+use Rattle.std.specs.Int.{bytes_high_first}
 use lib.Bits.{xor_lt}
 use Rattle.std.proofs.ByRecursion.{All-take, All-drop}
 use Rattle.std.proofs.lemmas.Bool.{eqb-true}
@@ -19,17 +20,17 @@ use Rattle.register.proofs.Checked.{opened_is}
 use Rattle.register.proofs.Rows.{accepted_iff}
 use Rattle.register.proofs.Runs.{step_sound}
 use Rattle.line_reader.specs.Calls.{line_input}
-use Rattle.line_reader.specs.Making.{Making, Sent, all_taken, stopped, bytes_of_word, made, made_by, making, sealed_image, sent, unless_refused, TextsPass}
+use Rattle.line_reader.specs.Making.{Making, Sent, all_taken, stopped, made, made_by, making, sealed_image, sent, unless_refused, TextsPass}
 use Rattle.line_reader.specs.Texts.{line_of, lines_of, text_of}
 use Rattle.line_reader.proofs.Makings.{making_is, making_own, not_made, opened_made}
 use Rattle.line_reader.proofs.Written.{line_reads, text_bytes, text_lines}
 
 -- ---- a word and its eight bytes
 
-word_as_bytes : (w : ℕ) → Bytes (bytes_of_word w)
+word_as_bytes : (w : ℕ) → Bytes (bytes_high_first 8 w)
 word_as_bytes w = (omega arith, (omega arith, (omega arith, (omega arith, (omega arith, (omega arith, (omega arith, (omega arith, tt))))))))
 
-word_of_bytes : (w : ℕ) → w < 2 ^ 64 → word (bytes_of_word w) ≡ w
+word_of_bytes : (w : ℕ) → w < 2 ^ 64 → word (bytes_high_first 8 w) ≡ w
 word_of_bytes w h = omega arith
 
 -- ---- the records of lines that are all taken are a book's
@@ -111,9 +112,9 @@ module _ (M : Meaning) (laws : Lawful M) (buffer bytes : List ℕ) (bs : Bytes b
   passes_text p =
       (text_of p.records, text_bytes [] p.records p.book, subst (λ (x : List ℕ). made M buffer (text_of p.records) (length x) ≡ (Ok (length x), x)) (sym whole) makes)
     where
-      seal_is : p.seal ≡ bytes_of_word (sealed M (key_of M buffer) (pad_of M buffer) p.records)
+      seal_is : p.seal ≡ bytes_high_first 8 (sealed M (key_of M buffer) (pad_of M buffer) p.records)
       seal_is =
-          word_injective p.seal (bytes_of_word (sealed M (key_of M buffer) (pad_of M buffer) p.records)) (seal_bytes p.records M.code p.seal (subst Bytes p.framed bi)) (word_as_bytes _) p.eight_bytes
+          word_injective p.seal (bytes_high_first 8 (sealed M (key_of M buffer) (pad_of M buffer) p.records)) (seal_bytes p.records M.code p.seal (subst Bytes p.framed bi)) (word_as_bytes _) p.eight_bytes
           (p.agrees ∙ sym (word_of_bytes _ (sealed_small M buffer bs _ (sym p.opens) laws p.records p.book)))
 
       whole : bytes ≡ own_image p.records
@@ -134,7 +135,7 @@ module _ (M : Meaning) (laws : Lawful M) (buffer bytes : List ℕ) (bs : Bytes b
         opens = o ∙ ap Ok (opened_is M buffer v (sym o));
         records = rs;
         book = b;
-        seal = bytes_of_word (sealed M (key_of M buffer) (pad_of M buffer) rs);
+        seal = bytes_high_first 8 (sealed M (key_of M buffer) (pad_of M buffer) rs);
         eight_bytes = refl;
         framed = making_is M (key_of M buffer) (pad_of M buffer) rs bytes e;
         agrees = word_of_bytes _ (sealed_small M buffer bs v (sym o) laws rs b);

@@ -10,7 +10,7 @@ use Rattle.register.specs.Run.{a_record}
 use Rattle.register.proofs.Rows.{accepted_in_range, accepted_name}
 use Rattle.line_reader.specs.declared.kind.Kind.{Kind}
 use Rattle.line_reader.specs.declared.kind.Kind.TheVariants.{Smoke, Heat, Call, Sounder}
-use Rattle.line_reader.specs.Codes.{number_of_kind}
+use Rattle.line_reader.specs.Numbers.{number_of_kind}
 use Rattle.line_reader.specs.Grammar.{digit, Number, Name, none, itself, escape, spelling, zone_line, point_line, rule_line}
 use Rattle.line_reader.specs.Calls.{Asks, asks_point, asks_rule, asks_zone, line_input}
 use Rattle.line_reader.specs.Texts.{on_first, lines_of, decimal, escaped, kind_of, line_of, text_of}

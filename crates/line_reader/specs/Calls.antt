@@ -9,7 +9,7 @@ use Rattle.line_reader.specs.declared.calls.Call.TheVariants.{Line, Zone, Point,
 use Rattle.line_reader.specs.declared.fault.LineFault.{LineFault}
 use Rattle.line_reader.specs.declared.fault.LineFault.TheVariants.{Read, Record}
 use Rattle.line_reader.specs.declared.fault.ReadFault.{ReadFault}
-use Rattle.line_reader.specs.Codes.{number_of_read_fault}
+use Rattle.line_reader.specs.Numbers.{number_of_read_fault}
 use Rattle.line_reader.specs.Grammar.{Faulty, Name, Sentence, Spells, nothing, zone, point, rule}
 use Rattle.line_reader.specs.Reading.{decoded, reading}
 

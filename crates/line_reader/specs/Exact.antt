@@ -1,7 +1,7 @@
 -- The reading of a line is the one answer that the grammar allows, and decoding gives the bytes of a name.
 use Rattle.std.specs.Prelude.{◌≡◌, ℕ, ◌⊎◌, ◌↔◌, List, Ok, Err}
 use Rattle.line_reader.specs.declared.fault.ReadFault.{ReadFault}
-use Rattle.line_reader.specs.Codes.{number_of_read_fault}
+use Rattle.line_reader.specs.Numbers.{number_of_read_fault}
 use Rattle.line_reader.specs.Grammar.{Name, Sentence, Spells, Faulty}
 use Rattle.line_reader.specs.Reading.{reading, decoded}
 

@@ -27,5 +27,5 @@ abbrev pub family_answer : Result FamilyCode InputFault → Answer ℕ
 family_answer (Ok family) = Ok (code_of_family family)
 family_answer (Err fault) = Err (number_of_input_fault fault)
 
-abbrev pub Decodes : ℕ → Result FamilyCode InputFault → Type 0
-Decodes code result = family_answer result ≡ picked code
+abbrev pub PicksFamily : ℕ → Result FamilyCode InputFault → Type 0
+PicksFamily code result = family_answer result ≡ picked code

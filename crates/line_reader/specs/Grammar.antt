@@ -5,7 +5,7 @@ use Rattle.line_reader.specs.declared.fault.ReadFault.{ReadFault}
 use Rattle.line_reader.specs.declared.fault.ReadFault.TheVariants.{Syntax, Escape}
 use Rattle.line_reader.specs.declared.kind.Kind.{Kind}
 use Rattle.line_reader.specs.declared.kind.Kind.TheVariants.{Smoke, Heat, Call, Sounder}
-use Rattle.line_reader.specs.Codes.{number_of_kind}
+use Rattle.line_reader.specs.Numbers.{number_of_kind}
 
 -- 0 to 9
 abbrev pub digit : ℕ → Bool

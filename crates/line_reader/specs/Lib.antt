@@ -1,6 +1,6 @@
 -- What the contracts cite: the grammar, the reading as a function, and that the two agree; calls and the promise on them; making an image; the
 -- answer to a whole input.
-pub mod Codes
+pub mod Numbers
 pub mod Grammar
 pub mod Reading
 pub mod Exact

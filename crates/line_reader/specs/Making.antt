@@ -1,5 +1,6 @@
 -- What making the image of a text answers and leaves, and that the check passes just the images that texts make.
-use Rattle.std.specs.Prelude.{◌≡◌, ℕ, ◌+◌, ◌/◌, ◌%◌, ◌^◌, cond, ◌↔◌, List, [], ◌∷◌, length, replicate, Ok, Err, Result, nat_le}
+use Rattle.std.specs.Prelude.{◌≡◌, ℕ, ◌+◌, cond, ◌↔◌, List, [], ◌∷◌, length, replicate, Ok, Err, Result, nat_le}
+use Rattle.std.specs.Int.{bytes_high_first}
 use Rattle.hashes.specs.Family.{Meaning}
 use Rattle.hashes.specs.KeyFault.{Answer}
 use Rattle.hashes.specs.Word.{Bytes}
@@ -29,14 +30,9 @@ sent before (line ∷ lines) n =
     let s = step before (line_input line) in
     unless_refused s.0 n (sent s.1 lines (n + 1))
 
--- a word as eight bytes, highest first
-abbrev pub bytes_of_word : ℕ → List ℕ
-bytes_of_word w =
-    (w / 2 ^ 56 % 256) ∷ (w / 2 ^ 48 % 256) ∷ (w / 2 ^ 40 % 256) ∷ (w / 2 ^ 32 % 256) ∷ (w / 2 ^ 24 % 256) ∷ (w / 2 ^ 16 % 256) ∷ (w / 2 ^ 8 % 256) ∷ (w % 256) ∷ []
-
 -- the image of records under a key and a pad
 abbrev pub sealed_image : Meaning → List ℕ → ℕ → List Record → List ℕ
-sealed_image M key pad rs = image rs M.code (bytes_of_word (sealed M key pad rs))
+sealed_image M key pad rs = image rs M.code (bytes_high_first 8 (sealed M key pad rs))
 
 -- An answer, and the output after it: the image's length, or a refusal's number with the line and the column.
 abbrev pub Making : Type 0

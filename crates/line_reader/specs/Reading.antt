@@ -7,7 +7,7 @@ use Rattle.line_reader.specs.declared.kind.Kind.{Kind}
 use Rattle.line_reader.specs.declared.kind.Kind.TheVariants.{Smoke, Heat, Call, Sounder}
 use Rattle.line_reader.specs.declared.line.Line.{Line}
 use Rattle.line_reader.specs.declared.line.Line.TheVariants.{Blank, Zone, Point, Rule}
-use Rattle.line_reader.specs.Codes.{number_of_kind, number_of_read_fault}
+use Rattle.line_reader.specs.Numbers.{number_of_kind, number_of_read_fault}
 use Rattle.line_reader.specs.Grammar.{digit, leads, plain, unescaped, spelling, Sentence, nothing, zone, point, rule}
 
 -- what a stage leaves of a text, and its answer

@@ -6,6 +6,7 @@ use Rattle.hashes.specs.Family.{Meaning, hash}
 use Rattle.hashes.specs.KeyFault.{reducible_refusal, zero_refusal}
 use Rattle.hashes.specs.Toeplitz.{first_state_of, taps_of, toeplitz_hash, toeplitz_refusal}
 use Rattle.hashes.specs.Word.{word}
+use Rattle.register.specs.Fields.{seal_field_length}
 use Rattle.register.specs.Records.{message}
 use Rattle.line_reader.specs.Making.{Sent, all_taken, stopped, sent}
 use Rattle.line_reader.specs.Texts.{lines_of}
@@ -39,24 +40,24 @@ abbrev pub scheme_of : Meaning → Scheme
 scheme_of M = record { key_len = M.key_len; refusal = M.refusal; formula = hash M }
 
 -- An answer: the image's length and the seal, or a refusal's number with the line and the column.
-abbrev pub SiteSeal : Type 0
-SiteSeal = Result (ℕ × ℕ) (ℕ × (ℕ × ℕ))
+abbrev pub InputAnswer : Type 0
+InputAnswer = Result (ℕ × ℕ) (ℕ × (ℕ × ℕ))
 
 -- a refusal in which no line is at fault
-abbrev pub no_seal : ℕ → SiteSeal
+abbrev pub no_seal : ℕ → InputAnswer
 no_seal number = Err (number, (0, 0))
 
 -- by what the lines come to: the image is the message and twelve bytes of seal field, and the seal the message's hash combined with the pad
-abbrev pub seal_of_lines : Scheme → List ℕ → ℕ → Sent → SiteSeal
-seal_of_lines S key pad (all_taken rs) = Ok (length (message rs) + 12, bit_xor (S.formula key (message rs)) pad)
+abbrev pub seal_of_lines : Scheme → List ℕ → ℕ → Sent → InputAnswer
+seal_of_lines S key pad (all_taken rs) = Ok (length (message rs) + seal_field_length, bit_xor (S.formula key (message rs)) pad)
 seal_of_lines S key pad (stopped number line column) = Err (number, (line, column))
 
-abbrev pub unless_refused_key : Option ℕ → SiteSeal → SiteSeal
+abbrev pub unless_refused_key : Option ℕ → InputAnswer → InputAnswer
 unless_refused_key None later = later
 unless_refused_key (Some n) later = no_seal n
 
 -- a key, eight pad bytes and a text; 1 where the key buffer is short
-abbrev pub seal_by_scheme : Scheme → List ℕ → SiteSeal
+abbrev pub seal_by_scheme : Scheme → List ℕ → InputAnswer
 seal_by_scheme S rest =
     let key = take S.key_len rest in
     let pad = word (take 8 (drop S.key_len rest)) in
@@ -64,11 +65,11 @@ seal_by_scheme S rest =
     cond (nat_le (S.key_len + 8) (length rest)) (unless_refused_key (S.refusal key) (seal_of_lines S key pad (sent [] (lines_of text) 1))) (no_seal 1)
 
 -- 4 where there is no code, or it picks nothing
-abbrev pub seal_by : Option Scheme → List ℕ → SiteSeal
+abbrev pub seal_by : Option Scheme → List ℕ → InputAnswer
 seal_by None rest = no_seal 4
 seal_by (Some S) rest = seal_by_scheme S rest
 
-abbrev pub seal_of_parts : Option ℕ → List ℕ → SiteSeal
+abbrev pub seal_of_parts : Option ℕ → List ℕ → InputAnswer
 seal_of_parts None rest = no_seal 4
 seal_of_parts (Some code) rest = seal_by (scheme_by code) rest
 
@@ -78,9 +79,9 @@ code_of [] = None
 code_of (code ∷ rest) = Some code
 
 -- the longest input, in bytes
-abbrev pub input_limit : ℕ
-input_limit = 65536
+abbrev pub longest_input : ℕ
+longest_input = 65536
 
 -- the answer to an input
-abbrev pub site_seal : List ℕ → SiteSeal
-site_seal input = cond (nat_le (length input) input_limit) (seal_of_parts (code_of input) (drop 1 input)) (no_seal 5)
+abbrev pub input_answer : List ℕ → InputAnswer
+input_answer input = cond (nat_le (length input) longest_input) (seal_of_parts (code_of input) (drop 1 input)) (no_seal 5)

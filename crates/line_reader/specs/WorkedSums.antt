@@ -8,7 +8,7 @@ use Rattle.hashes.specs.Toeplitz.{toeplitz_hash}
 use Rattle.register.specs.Records.{message}
 use Rattle.register.specs.Run.{step, unread}
 use Rattle.line_reader.specs.Calls.{line_input}
-use Rattle.line_reader.specs.SiteInput.{no_seal, site_seal}
+use Rattle.line_reader.specs.SiteInput.{no_seal, input_answer}
 
 -- the message of one zone with the number 7 and the name A
 abbrev pub zone_seven : List ℕ
@@ -35,7 +35,7 @@ pub record WorkedSums : Type 0 where
   -- x^64 + x^2 + 1 is the square of x^32 + x + 1, so it is not irreducible and its word no key
   pub square : times (2 ^ 32 + 3) (2 ^ 32 + 3) ≡ 2 ^ 64 + 5
   pub reducible : Irreducible (2 ^ 64 + 5) → ⊥
-  pub no_key : site_seal (input_by 1 5 []) ≡ no_seal 3
+  pub no_key : input_answer (input_by 1 5 []) ≡ no_seal 3
   -- an escaped quote does not end a name
   pub stair : added (codes "zone 2 \"Stair \\\"B\\\"\"")
       ≡ 0x01 ∷ 0x00 ∷ 0x0B ∷ 0x00 ∷ 0x02 ∷ 0x53 ∷ 0x74 ∷ 0x61 ∷ 0x69 ∷ 0x72 ∷ 0x20 ∷ 0x22 ∷ 0x42 ∷ 0x22 ∷ []
@@ -44,4 +44,4 @@ pub record WorkedSums : Type 0 where
   pub no_escape : line_input (codes "zone 7 \"A\\q\"") ≡ unread 12 10
   pub breaks_off : line_input (codes "zone 7 \"A") ≡ unread 11 9
   -- an input of the program
-  pub sealed_zone : site_seal (input_by 3 1 (codes "zone 7 \"A\"" ++ (0x0A ∷ []))) ≡ Ok (18, 0x0100030007418001)
+  pub sealed_zone : input_answer (input_by 3 1 (codes "zone 7 \"A\"" ++ (0x0A ∷ []))) ≡ Ok (18, 0x0100030007418001)

@@ -1,5 +1,5 @@
 // The families that a code byte picks from. Each has its code as its number.
-ghost use Rattle.line_reader.specs.FamilyCodes.{Decodes};
+ghost use Rattle.line_reader.specs.FamilyCodes.{PicksFamily};
 
 use crate::fault::InputFault;
 
@@ -13,7 +13,7 @@ pub enum FamilyCode {
 impl TryFrom<u8> for FamilyCode {
     type Error = InputFault;
 
-    ghost try_from_gives = { Decodes };
+    ghost try_from_gives = { PicksFamily };
 
     fn try_from(code: u8) -> Result<FamilyCode, InputFault> {
         // The numbers again, since a pattern takes no discriminant.

@@ -1,9 +1,9 @@
 // Why a line, the making of an image, or an input of the program is refused. Each fault has a number.
 ghost use Rattle.line_reader.specs.Calls.{column_of_line_fault, number_of_line_fault};
-ghost use Rattle.line_reader.specs.Codes.{number_of_read_fault};
+ghost use Rattle.line_reader.specs.Numbers.{number_of_read_fault};
 ghost use Rattle.line_reader.specs.InputFaults.{number_of_input_fault, place_of_input_fault};
 ghost use Rattle.line_reader.specs.MakeFaults.{number_of_make_fault, place_of_make_fault};
-ghost use Rattle.line_reader.specs.declared.fault.InputFault.TheVariants.{Site};
+ghost use Rattle.line_reader.specs.declared.fault.InputFault.TheVariants.{Make};
 ghost use Rattle.line_reader.specs.declared.fault.LineFault.TheVariants.{Read, Record};
 ghost use Rattle.line_reader.specs.declared.fault.MakeFault.TheVariants.{Key};
 ghost use Rattle.std.specs.Prelude.{◌≡◌};
@@ -128,7 +128,7 @@ pub enum InputFault {
     // The input is too long.
     Length,
     // The key buffer or a line is refused.
-    Site(MakeFault),
+    Make(MakeFault),
 }
 
 impl InputFault {
@@ -139,7 +139,7 @@ impl InputFault {
         match self {
             InputFault::Code => 4,
             InputFault::Length => 5,
-            InputFault::Site(fault) => fault.number(),
+            InputFault::Make(fault) => fault.number(),
         }
     }
 
@@ -148,16 +148,16 @@ impl InputFault {
         ensures { result ≡ place_of_input_fault self.now }
     {
         match self {
-            InputFault::Site(fault) => fault.place(),
+            InputFault::Make(fault) => fault.place(),
             _ => (0, 0),
         }
     }
 }
 
 impl From<MakeFault> for InputFault {
-    ghost from_gives = { λ f r. r ≡ Site f };
+    ghost from_gives = { λ f r. r ≡ Make f };
 
     fn from(fault: MakeFault) -> InputFault {
-        InputFault::Site(fault)
+        InputFault::Make(fault)
     }
 }

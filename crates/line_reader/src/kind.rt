@@ -1,5 +1,5 @@
 // The kinds of point. Each has a number and a word.
-ghost use Rattle.line_reader.specs.Codes.{number_of_kind};
+ghost use Rattle.line_reader.specs.Numbers.{number_of_kind};
 ghost use Rattle.line_reader.specs.Grammar.{spelling};
 ghost use Rattle.line_reader.specs.Reading.{likely};
 ghost use Rattle.std.specs.Prelude.{◌≡◌};

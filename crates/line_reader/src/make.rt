@@ -12,7 +12,7 @@ use crate::bytes::feed;
 use crate::calls::line_into;
 use crate::fault::{MakeFault, Refusal};
 use hashes::family::Family;
-use register::framing::{SEAL, SEAL_FIELD, SEAL_VALUE};
+use register::framing::{SEAL_FIELD_LEN, SEAL_TAG, SEAL_VALUE_LEN};
 use register::output::put_bytes;
 use register::register::Register;
 use std::simd::prelude::*;
@@ -91,16 +91,29 @@ fn build<F: Family>(text: &[u8], buffer: &mut [u8], out: &mut [u8]) -> Result<us
     send_lines(&mut register, text, out)?;
     let at = register.len();
     // A test, since `put_bytes` does not tell whether there was room, and where there is none the answer is 50.
-    if at > out.len() || out.len() - at < SEAL_FIELD {
+    if at > out.len() || out.len() - at < SEAL_FIELD_LEN {
         return Err(MakeFault::Room);
     }
     let [a, b, c, d, e, f, g, h] = register.close().to_be_bytes();
     put_bytes(
         out,
         at,
-        &[SEAL, 0, SEAL_VALUE, F::code(), a, b, c, d, e, f, g, h],
+        &[
+            SEAL_TAG,
+            0,
+            SEAL_VALUE_LEN,
+            F::code(),
+            a,
+            b,
+            c,
+            d,
+            e,
+            f,
+            g,
+            h,
+        ],
     );
-    Ok(at + SEAL_FIELD)
+    Ok(at + SEAL_FIELD_LEN)
 }
 
 // Makes the image of a text by a key buffer, which it leaves zero. Where that can be done it answers how long the image is, and the output has the image in

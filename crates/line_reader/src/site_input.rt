@@ -2,7 +2,7 @@
 ghost use Rattle.hashes.specs.Word.{Bytes};
 ghost use Rattle.line_reader.specs.FamilyCodes.{scheme_of_family};
 ghost use Rattle.line_reader.specs.InputFaults.{seal_answer, text_answer};
-ghost use Rattle.line_reader.specs.SiteInput.{code_of, scheme_of, seal_by_scheme, site_seal};
+ghost use Rattle.line_reader.specs.SiteInput.{code_of, scheme_of, seal_by_scheme, input_answer};
 ghost use Rattle.line_reader.specs.WorkedSums.{WorkedSums};
 ghost use Rattle.std.specs.Prelude.{◌≡◌, length, replicate};
 
@@ -15,11 +15,11 @@ use hashes::family::Family;
 use hashes::gather::Gather;
 use hashes::key_fault::KeyFault;
 use hashes::toeplitz::Toeplitz;
-use register::framing::SEAL_FIELD;
+use register::framing::SEAL_FIELD_LEN;
 use register::register::{PAD_LEN, Register};
 
 // The longest input.
-pub const LIMIT: usize = 65_536;
+pub const LONGEST_INPUT: usize = 65_536;
 
 // Seals a text that stands behind its key buffer: the length of its image, and the seal. A plain pair here and below, as it is answered to callers.
 fn seal_text<F: Family>(rest: &mut [u8]) -> Result<(usize, u64), MakeFault>
@@ -30,7 +30,7 @@ fn seal_text<F: Family>(rest: &mut [u8]) -> Result<(usize, u64), MakeFault>
         .ok_or(KeyFault::Length)?;
     let mut register = Register::<F>::open(buffer)?;
     send_lines(&mut register, text, &mut [])?;
-    let length = register.len() + SEAL_FIELD;
+    let length = register.len() + SEAL_FIELD_LEN;
     Ok((length, register.close()))
 }
 
@@ -56,9 +56,9 @@ fn code_of(input: &[u8]) -> Option<u8>
 
 // Seals an input: its length is looked at first, then its code.
 fn seal_parts(input: &mut [u8]) -> Result<(usize, u64), InputFault>
-    ensures { seal_answer result ≡ site_seal input.old }
+    ensures { seal_answer result ≡ input_answer input.old }
 {
-    if input.len() > LIMIT {
+    if input.len() > LONGEST_INPUT {
         return Err(InputFault::Length);
     }
     let code = code_of(input).ok_or(InputFault::Code)?;
@@ -68,7 +68,7 @@ fn seal_parts(input: &mut [u8]) -> Result<(usize, u64), InputFault>
 
 // Seals an input, which it leaves zero: the length of the image, and the seal. A refusal answers its number with the line, from 1, and the column.
 pub fn seal_input(input: &mut [u8]) -> Result<(usize, u64), Refusal>
-    ensures seals { result ≡ site_seal input.old }
+    ensures seals { result ≡ input_answer input.old }
     ensures cleared { input.new ≡ replicate (length input.old) 0 }
     ensures worked { WorkedSums }
 {

@@ -1,27 +1,23 @@
 -- How many keys can fail, from a family's law alone.
 use Rattle.std.proofs.Common.{◌≡◌, ℕ, max, ◌≢◌, List, [], ◌∷◌, ◌++◌, length, sym, ap, ◌∙◌, subst, ap₂, arith}
-use lib.Bits.{bit_xor, xor_assoc, xor_comm, xor_self, xor_zero_r}
+use lib.Bits.{bit_xor, xor_assoc, xor_self, xor_zero_r}
 use Rattle.std.proofs.ByRecursion.{All-weaker}
 use Rattle.std.proofs.lemmas.List.{take_at, drop_at}
+use Rattle.hashes.specs.Bytes.{word_injective}
 use Rattle.hashes.specs.Family.{Meaning, Lawful, Key, AtMost, hash}
 use Rattle.hashes.specs.Word.{Bytes, word}
+use Rattle.hashes.specs.Xor.{xor_swap}
 use Rattle.register.specs.Records.{Record, bytes_of, message}
 use Rattle.register.specs.Book.{BookRecords}
 use Rattle.register.specs.Image.{image, seal_field}
 use Rattle.register.specs.ImageMessage.{message_of}
 use Rattle.register.specs.View.{sealed, key_of, pad_of}
 use Rattle.register.specs.Check.{Passes}
-use Rattle.register.proofs.Bytes.{bytes_right, word_injective}
+use Rattle.register.proofs.Bytes.{bytes_right}
 use Rattle.register.proofs.Encoding.{message_bytes, message_inj}
 use Rattle.register.proofs.ImageMessages.{message_of_image}
 use Rattle.register.proofs.Images.{one_book}
 use Rattle.register.proofs.Runs.{taken_encodable}
-
-xor_swap : (a b c d : ℕ) → bit_xor (bit_xor a b) (bit_xor c d) ≡ bit_xor (bit_xor a c) (bit_xor b d)
-xor_swap a b c d =
-    xor_assoc a b (bit_xor c d)
-    ∙ ap (bit_xor a) (sym (xor_assoc b c d) ∙ ap (λ x. bit_xor x d) (xor_comm b c) ∙ xor_assoc c b d)
-    ∙ sym (xor_assoc a c (bit_xor b d))
 
 -- both pads on the other side
 pads_out : (a b p q d : ℕ) → bit_xor (bit_xor a p) (bit_xor b q) ≡ d → bit_xor a b ≡ bit_xor d (bit_xor p q)

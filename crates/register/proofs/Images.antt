@@ -6,13 +6,13 @@ use Rattle.hashes.specs.Word.{Bytes}
 use Rattle.register.specs.declared.fault.RecordFault.{RecordFault}
 use Rattle.register.specs.Records.{Record, Field, field, bytes_of, field_of, message}
 use Rattle.register.specs.Fields.{is_record_length, is_record, record_in, next_field, is_seal}
-use Rattle.register.specs.Known.{refusal}
+use Rattle.register.specs.Known.{first_fault}
 use Rattle.register.specs.Book.{TakenAfter, BookRecords}
 use Rattle.register.specs.Image.{seal_field, image, BeginsRecord, BeginsSeal, Unframed, Outcome, compares, faulty, Checks, unframed, refuses, takes, trailing, other_code, ends, value_of, seal_outcome, record_outcome, field_outcome, check_from, check, FramingFault, is_known_length}
 use Rattle.register.proofs.Bytes.{bytes_left, bytes_right}
 use Rattle.register.proofs.Encoding.{next_field_reads, field_read, record_read, field_is_record, record_of_field}
 use Rattle.register.proofs.Firsts.{None_Some, Some_inj}
-use Rattle.register.proofs.Rows.{refusal_iff, accepted_iff}
+use Rattle.register.proofs.Rows.{first_fault_iff, accepted_iff}
 
 pub decides_seal : (t : ℕ) (v : List ℕ) → Decides (is_seal (field t v)) ((t ≡ 0x53) × (length v ≡ 9))
 decides_seal t v = Decides-and _ _ (Decides-eqb t 0x53) (Decides-eqb (length v) 9)
@@ -106,15 +106,15 @@ module _ (code : ℕ) where
       begins : is_record f ≡ true → BeginsRecord bytes r rest
       begins p = whole ∙ ap (λ x. bytes_of x ++ rest) (sym (same p))
 
-      at_refusal : is_record f ≡ true → (o : Option RecordFault) → refusal before r ≡ o → Checks code before bytes offset (record_outcome offset (later f rest) o)
-      at_refusal p None q =
+      at_fault : is_record f ≡ true → (o : Option RecordFault) → first_fault before r ≡ o → Checks code before bytes offset (record_outcome offset (later f rest) o)
+      at_fault p None q =
           takes r rest (begins p) ((accepted_iff before r).0 q)
           (subst (λ x. Checks code (before ++ (r ∷ [])) rest (offset + length (bytes_of x)) (later f rest)) (sym (same p)) below)
-      at_refusal p (Some x) q = refuses r rest (begins p) ((refusal_iff before r x).0 q)
+      at_fault p (Some x) q = refuses r rest (begins p) ((first_fault_iff before r x).0 q)
 
       at_record : (b : Bool) → is_record f ≡ b →
-          Checks code before bytes offset (cond b (record_outcome offset (later f rest) (refusal before r)) (cond (is_seal f) (seal_outcome code before offset (value_of f) rest) (faulty 40 offset)))
-      at_record true p = at_refusal p (refusal before r) refl
+          Checks code before bytes offset (cond b (record_outcome offset (later f rest) (first_fault before r)) (cond (is_seal f) (seal_outcome code before offset (value_of f) rest) (faulty 40 offset)))
+      at_record true p = at_fault p (first_fault before r) refl
       at_record false p = at_seal (is_seal f) p refl
 
   -- the function comes to what the check comes to
@@ -140,7 +140,7 @@ module _ (code : ℕ) where
 
   record_step : (fuel : ℕ) (before : List Record) (bytes : List ℕ) (offset : ℕ) (r : Record) (rest : List ℕ) → length bytes ≤ fuel → BeginsRecord bytes r rest →
       (less : ℕ) × (length rest ≤ less) ×
-      (check_from fuel code before bytes offset ≡ record_outcome offset (check_from less code (before ++ (r ∷ [])) rest (offset + length (bytes_of (field_of r)))) (refusal before r))
+      (check_from fuel code before bytes offset ≡ record_outcome offset (check_from less code (before ++ (r ∷ [])) rest (offset + length (bytes_of (field_of r)))) (first_fault before r))
   record_step zero before bytes offset r rest l e = absurd (let s = field_shorter bytes (field_of r) rest e in omega arith)
   record_step (suc fuel) before bytes offset r rest l e =
       let s = field_shorter bytes (field_of r) rest e in
@@ -169,7 +169,7 @@ module _ (code : ℕ) where
           whole = field_read bytes f p.1 bs e
 
           at : (b d : Bool) → is_record f ≡ b → is_seal f ≡ d →
-              cond b (record_outcome offset (later f p.1) (refusal before (record_in f))) (cond d (seal_outcome code before offset (value_of f) p.1) (faulty 40 offset)) ≡ faulty 40 offset
+              cond b (record_outcome offset (later f p.1) (first_fault before (record_in f))) (cond d (seal_outcome code before offset (value_of f) p.1) (faulty 40 offset)) ≡ faulty 40 offset
           at true d q s = absurd (not_record bytes f p.1 bs whole u q)
           at false true q s = absurd (not_seal bytes f p.1 whole u s)
           at false false q s = refl
@@ -180,7 +180,7 @@ module _ (code : ℕ) where
   check_only fuel before bytes offset o l bs (unframed u) = unframed_step fuel before bytes offset bs u
   check_only fuel before bytes offset o l bs (refuses {f = f} r rest e h) =
       let s = record_step fuel before bytes offset r rest l e in
-      s.2 ∙ ap (record_outcome offset _) ((refusal_iff before r f).1 h)
+      s.2 ∙ ap (record_outcome offset _) ((first_fault_iff before r f).1 h)
   check_only fuel before bytes offset o l bs (takes r rest e h below) =
       let s = record_step fuel before bytes offset r rest l e in
       s.2 ∙ ap (record_outcome offset _) ((accepted_iff before r).1 h) ∙

@@ -5,7 +5,7 @@ use Rattle.hashes.specs.Family.{Meaning}
 use Rattle.register.specs.declared.fault.RecordFault.{RecordFault}
 use Rattle.register.specs.declared.fault.RecordFault.TheVariants.{Range, Name}
 use Rattle.register.specs.Records.{zone}
-use Rattle.register.specs.Known.{Known, within, zone_name, refusal_by}
+use Rattle.register.specs.Known.{Known, within, zone_name, first_fault_by}
 use Rattle.register.specs.View.{View, reply, reply_by, after, after_by}
 use Rattle.register.specs.Writing.{output_after, output_by}
 
@@ -14,7 +14,7 @@ long_fails : (name : List ℕ) → 40 < length name → zone_name name ≡ false
 long_fails name l = let f : within 1 40 (length name) ≡ false = grind arith in rw f
 
 -- the row of a zone with such a name: its number decides
-long_row : (known : Known) (n : ℕ) (name : List ℕ) → 40 < length name → refusal_by known (zone n name) ≡ cond (not (within 1 250 n)) (Some Range) (Some Name)
+long_row : (known : Known) (n : ℕ) (name : List ℕ) → 40 < length name → first_fault_by known (zone n name) ≡ cond (not (within 1 250 n)) (Some Range) (Some Name)
 long_row known n name l = rw (long_fails name l)
 
 module _ {A : Type 0} (by : List ℕ → Option RecordFault → A) (refuses : (xs ys : List ℕ) (f : RecordFault) → by xs (Some f) ≡ by ys (Some f)) where
@@ -24,11 +24,11 @@ module _ {A : Type 0} (by : List ℕ → Option RecordFault → A) (refuses : (x
   any_name xs ys false = refuses xs ys Name
 
   -- 41 bytes of a name do for all of it
-  cut_name : (known : Known) (n : ℕ) (name : List ℕ) → by (take 41 name) (refusal_by known (zone n (take 41 name))) ≡ by name (refusal_by known (zone n name))
+  cut_name : (known : Known) (n : ℕ) (name : List ℕ) → by (take 41 name) (first_fault_by known (zone n (take 41 name))) ≡ by name (first_fault_by known (zone n name))
   cut_name known n name = go (cases_lt 41 (length name))
     where
-      go : (41 < length name) ⊎ (length name ≤ 41) → by (take 41 name) (refusal_by known (zone n (take 41 name))) ≡ by name (refusal_by known (zone n name))
-      go (inr le) = ap (λ t. by t (refusal_by known (zone n t))) (take_all 41 name le)
+      go : (41 < length name) ⊎ (length name ≤ 41) → by (take 41 name) (first_fault_by known (zone n (take 41 name))) ≡ by name (first_fault_by known (zone n name))
+      go (inr le) = ap (λ t. by t (first_fault_by known (zone n t))) (take_all 41 name le)
       go (inl lt) =
           let shortly : 40 < length (take 41 name) = simp length-take (omega arith) in
           let longly : 40 < length name = omega arith in

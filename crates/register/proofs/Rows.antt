@@ -9,8 +9,8 @@ use Rattle.hashes.specs.Word.{Bytes}
 use Rattle.register.specs.declared.fault.RecordFault.{RecordFault}
 use Rattle.register.specs.declared.fault.RecordFault.TheVariants.{Range, Name, Repeated, Missing, Full}
 use Rattle.register.specs.Records.{Record, zone, point, rule, message}
-use Rattle.register.specs.Book.{ZoneNumber, PointNumber, KindNumber, NameByte, ZoneName, DeclaresZone, DeclaresPoint, ZoneDeclared, PointDeclared, Fits, Refused, Accepted, rows, limit, InRange, NameFault, RepeatFault, MissingFault}
-use Rattle.register.specs.Known.{fits, refusal, within, zone_name, name_byte, known_of, zone_declared, point_declared, declares_zone, declares_point, in_range, name_fault, repeat_fault, missing_fault}
+use Rattle.register.specs.Book.{ZoneNumber, PointNumber, KindNumber, NameByte, ZoneName, DeclaresZone, DeclaresPoint, ZoneDeclared, PointDeclared, Fits, Refused, Accepted, rows, longest_message, InRange, NameFault, RepeatFault, MissingFault}
+use Rattle.register.specs.Known.{fits, first_fault, within, zone_name, name_byte, known_of, zone_declared, point_declared, declares_zone, declares_point, in_range, name_fault, repeat_fault, missing_fault}
 use Rattle.register.proofs.Encoding.{Encodable, decides_leb, message_more}
 use Rattle.register.proofs.Firsts.{first_found, first_is_found, none_found, none_is_found}
 
@@ -88,16 +88,16 @@ decides_fits before r Range = Decides-not _ (decides_in_range r)
 decides_fits before r Name = decides_name_fault r
 decides_fits before r Repeated = decides_repeat before r
 decides_fits before r Missing = decides_missing before r
-decides_fits before r Full = rw message_more (Decides-ltb limit _)
+decides_fits before r Full = rw message_more (Decides-ltb longest_message _)
 
 -- the function gives the first row that fits
-pub refusal_iff : (before : List Record) (r : Record) (f : RecordFault) → (refusal before r ≡ Some f) ↔ Refused before r f
-refusal_iff before r f = (
+pub first_fault_iff : (before : List Record) (r : Record) (f : RecordFault) → (first_fault before r ≡ Some f) ↔ Refused before r f
+first_fault_iff before r f = (
   first_found (Fits before r) (fits (known_of before) r) (decides_fits before r) rows f,
   first_is_found (Fits before r) (fits (known_of before) r) (decides_fits before r) rows f,
 )
 
-pub accepted_iff : (before : List Record) (r : Record) → (refusal before r ≡ None) ↔ Accepted before r
+pub accepted_iff : (before : List Record) (r : Record) → (first_fault before r ≡ None) ↔ Accepted before r
 accepted_iff before r = (
   none_found (Fits before r) (fits (known_of before) r) (decides_fits before r) rows,
   none_is_found (Fits before r) (fits (known_of before) r) (decides_fits before r) rows,
@@ -131,5 +131,5 @@ accepted_encodable before (zone n name) h =
 accepted_encodable before (point n z kind) h = let k = accepted_in_range before (point n z kind) h in (omega arith, omega arith, omega arith)
 accepted_encodable before (rule z p) h = let k = accepted_in_range before (rule z p) h in (omega arith, omega arith)
 
-pub accepted_length : (before : List Record) (r : Record) → Accepted before r → length (message (before ++ (r ∷ []))) ≤ limit
+pub accepted_length : (before : List Record) (r : Record) → Accepted before r → length (message (before ++ (r ∷ []))) ≤ longest_message
 accepted_length before r h = omega (arith, h.1.1.1.1.0)

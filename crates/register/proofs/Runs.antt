@@ -3,24 +3,24 @@ use Rattle.std.proofs.Common.{◌≡◌, ◌≤◌, List, [], ◌∷◌, ◌++�
 use Rattle.std.specs.List.{AllByRecursion}
 use Rattle.register.specs.declared.fault.RecordFault.{RecordFault}
 use Rattle.register.specs.Records.{Record, message}
-use Rattle.register.specs.Known.{refusal}
-use Rattle.register.specs.Book.{limit, TakenAfter, BookRecords}
+use Rattle.register.specs.Known.{first_fault}
+use Rattle.register.specs.Book.{longest_message, TakenAfter, BookRecords}
 use Rattle.register.specs.Run.{Input, a_record, no_record, unread, Reply, Step, takes, refuses, skips, rejects, Run, ends, calls, step_by, step, run}
 use Rattle.register.proofs.Encoding.{Encodable}
-use Rattle.register.proofs.Rows.{refusal_iff, accepted_iff, accepted_encodable, accepted_length}
+use Rattle.register.proofs.Rows.{first_fault_iff, accepted_iff, accepted_encodable, accepted_length}
 
 pub step_sound : (before : List Record) (b : Input) → Step before b (step before b).0 (step before b).1
-step_sound before (a_record r) = go (refusal before r) refl
+step_sound before (a_record r) = go (first_fault before r) refl
   where
-    go : (o : Option RecordFault) → refusal before r ≡ o → Step before (a_record r) (step_by before r o).0 (step_by before r o).1
+    go : (o : Option RecordFault) → first_fault before r ≡ o → Step before (a_record r) (step_by before r o).0 (step_by before r o).1
     go None e = takes ((accepted_iff before r).0 e)
-    go (Some f) e = refuses ((refusal_iff before r f).0 e)
+    go (Some f) e = refuses ((first_fault_iff before r f).0 e)
 step_sound before no_record = skips
 step_sound before (unread n c) = rejects
 
 step_complete : (before : List Record) (b : Input) (a : Reply) (after : List Record) → Step before b a after → step before b ≡ (a, after)
 step_complete before (a_record r) a after (takes h) = rw ((accepted_iff before r).1 h)
-step_complete before (a_record r) a after (refuses {f = f} h) = rw ((refusal_iff before r f).1 h)
+step_complete before (a_record r) a after (refuses {f = f} h) = rw ((first_fault_iff before r f).1 h)
 step_complete before no_record a after skips = refl
 step_complete before (unread n c) a after rejects = refl
 
@@ -53,12 +53,12 @@ taken_encodable before [] h = tt
 taken_encodable before (r ∷ rs) h = (accepted_encodable before r h.0, taken_encodable (before ++ (r ∷ [])) rs h.1)
 
 -- the message stays within its limit
-pub taken_length : (before rs : List Record) → TakenAfter before rs → length (message before) ≤ limit → length (message (before ++ rs)) ≤ limit
+pub taken_length : (before rs : List Record) → TakenAfter before rs → length (message before) ≤ longest_message → length (message (before ++ rs)) ≤ longest_message
 taken_length before [] h l = rw append-nil l
 taken_length before (r ∷ rs) h l = rw append_assoc at (taken_length (before ++ (r ∷ [])) rs h.1 (accepted_length before r h.0))
 
 -- the records of a new register, after any calls
-pub run_book : (bs : List Input) (answers : List Reply) (rs : List Record) → Run [] bs answers rs → BookRecords rs × (length (message rs) ≤ limit)
+pub run_book : (bs : List Input) (answers : List Reply) (rs : List Record) → Run [] bs answers rs → BookRecords rs × (length (message rs) ≤ longest_message)
 run_book bs answers rs h =
     let t = run_takes [] bs answers rs h in
     let e : rs ≡ t.0 = t.1 in

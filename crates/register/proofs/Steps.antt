@@ -5,7 +5,7 @@ use Rattle.hashes.specs.Family.{Meaning, absorbed}
 use Rattle.register.specs.declared.fault.RecordFault.{RecordFault}
 use Rattle.register.specs.Faults.{number_of_record_fault}
 use Rattle.register.specs.Records.{Record, field_of, bytes_of, message}
-use Rattle.register.specs.Known.{Known, known_of, refusal}
+use Rattle.register.specs.Known.{Known, known_of, first_fault}
 use Rattle.register.specs.Run.{Input, a_record, no_record, unread, taken, refused, Step, step, step_by}
 use Rattle.register.specs.View.{View, standing, reply, reply_by, after, after_by}
 use Rattle.register.specs.Inputs.{input_reply, input_after}
@@ -34,12 +34,12 @@ module _ (M : Meaning) (key : List ℕ) (pad : ℕ) (rs : List Record) where
 
   -- a call that was refused, and one that was taken
   module _ (r : Record) (v : View M) (stands : v ≡ standing M key pad rs) where
-    pub call_refused : (k c : ℕ) → refused k c ≡ reply M v r → (f : RecordFault) × (refusal rs r ≡ Some f) × (k ≡ number_of_record_fault f)
-    call_refused k c a = refused_row (known_of rs) r k c (refusal rs r) (a ∙ ap (λ (u : View M). reply M u r) stands)
+    pub call_refused : (k c : ℕ) → refused k c ≡ reply M v r → (f : RecordFault) × (first_fault rs r ≡ Some f) × (k ≡ number_of_record_fault f)
+    call_refused k c a = refused_row (known_of rs) r k c (first_fault rs r) (a ∙ ap (λ (u : View M). reply M u r) stands)
 
-    pub call_taken : (n : ℕ) (w : View M) → taken n ≡ reply M v r → w ≡ after M v r → (refusal rs r ≡ None) × (w ≡ standing M key pad (rs ++ (r ∷ [])))
+    pub call_taken : (n : ℕ) (w : View M) → taken n ≡ reply M v r → w ≡ after M v r → (first_fault rs r ≡ None) × (w ≡ standing M key pad (rs ++ (r ∷ [])))
     call_taken n w a l =
-        let none = taken_row (known_of rs) r n (refusal rs r) (a ∙ ap (λ (u : View M). reply M u r) stands) in
+        let none = taken_row (known_of rs) r n (first_fault rs r) (a ∙ ap (λ (u : View M). reply M u r) stands) in
         (none, l ∙ ap (λ (u : View M). after M u r) stands ∙ ap (after_by M (standing M key pad rs) r) none ∙ standing_push r)
 
   reply_step : (r : Record) (o : Option RecordFault) → reply_by (known_of rs) r o ≡ (step_by rs r o).0
@@ -52,12 +52,12 @@ module _ (M : Meaning) (key : List ℕ) (pad : ℕ) (rs : List Record) where
 
   -- what a call replies and leaves is the step's
   pub input_replies : (input : Input) → input_reply M (standing M key pad rs) input ≡ (step rs input).0
-  input_replies (a_record r) = reply_step r (refusal rs r)
+  input_replies (a_record r) = reply_step r (first_fault rs r)
   input_replies no_record = refl
   input_replies (unread n column) = refl
 
   pub input_leaves : (input : Input) → input_after M (standing M key pad rs) input ≡ standing M key pad (step rs input).1
-  input_leaves (a_record r) = after_step r (refusal rs r)
+  input_leaves (a_record r) = after_step r (first_fault rs r)
   input_leaves no_record = refl
   input_leaves (unread n column) = refl
 

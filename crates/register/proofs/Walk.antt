@@ -8,10 +8,10 @@ use Rattle.register.specs.declared.fault.ImageFault.TheVariants.{Record as Fault
 use Rattle.register.specs.Records.{Record, Field, field, bytes_of}
 use Rattle.register.specs.Fields.{is_record, record_in, next_field, is_seal}
 use Rattle.register.specs.Faults.{number_of_record_fault}
-use Rattle.register.specs.Known.{refusal}
+use Rattle.register.specs.Known.{first_fault}
 use Rattle.register.specs.Run.{taken, refused}
 use Rattle.register.specs.Image.{Outcome, compares, faulty, seal_outcome, record_outcome, field_outcome, check_from, check}
-use Rattle.register.specs.Reading.{Place, ReadsNext, first_place, place_at, seal_in, value_in}
+use Rattle.register.specs.FieldPlaces.{Place, ReadsNext, first_place, place_at, seal_in, value_in}
 use Rattle.register.specs.View.{View, standing, reply, after}
 use Rattle.register.specs.Walking.{Answers, seal_field_answer}
 use Rattle.register.proofs.Firsts.{None_Some, Some_inj}
@@ -137,7 +137,7 @@ module _ (image : List ℕ) (at : ℕ) (f : Place) (given : Gives image at f) wh
     -- a record's field
     record_step : is_record (field f.tag value) ≡ true → (r : Record) → r ≡ record_in (field f.tag value) →
         (less : ℕ) × (length (drop (f.place + f.length) image) ≤ less) ×
-        (check M.code image ≡ record_outcome at (check_from less M.code (w.before ++ (r ∷ [])) (drop (f.place + f.length) image) (f.place + f.length)) (refusal w.before r))
+        (check M.code image ≡ record_outcome at (check_from less M.code (w.before ++ (r ∷ [])) (drop (f.place + f.length) image) (f.place + f.length)) (first_fault w.before r))
     unfolding later
     record_step q r s =
         let st = step in

@@ -9,7 +9,7 @@ use Rattle.hashes.specs.Family.{Meaning}
 use Rattle.register.specs.declared.fault.RecordFault.{RecordFault}
 use Rattle.register.specs.Records.{Record, field_of, bytes_of, message}
 use Rattle.register.specs.Known.{known_of}
-use Rattle.register.specs.Known.{refusal}
+use Rattle.register.specs.Known.{first_fault}
 use Rattle.register.specs.Run.{Input, a_record, no_record, unread, step, step_by}
 use Rattle.register.specs.View.{standing}
 use Rattle.register.specs.Writing.{written, put, filled_up, Holds, output_by}
@@ -54,7 +54,7 @@ put_field room rs r out holds fits =
 -- an output that holds the message holds it after each call
 pub outputs_follow : (M : Meaning) (key : List ℕ) (pad room : ℕ) (before : List Record) (input : Input) (out : List ℕ) →
     Holds room before out → Holds room (step before input).1 (input_output M (standing M key pad before) input out)
-outputs_follow M key pad room before (a_record r) out holds = go (refusal before r)
+outputs_follow M key pad room before (a_record r) out holds = go (first_fault before r)
   where
     go : (o : Option RecordFault) → Holds room (step_by before r o).1 (output_by (known_of before) r out o)
     go None = put_field room before r out holds

@@ -8,26 +8,39 @@ use Rattle.register.specs.declared.fault.RecordFault.TheVariants.{Range, Name, R
 use Rattle.register.specs.Records.{Record, zone, point, rule, message}
 use Rattle.register.specs.First.{First, NoneOf}
 
+-- zones, points and kinds are numbered from 1 up to these
+abbrev pub last_zone : ℕ
+last_zone = 250
+
+abbrev pub last_point : ℕ
+last_point = 1000
+
+abbrev pub last_kind : ℕ
+last_kind = 4
+
+-- the most bytes that a name, and a message, may have
+abbrev pub longest_name : ℕ
+longest_name = 40
+
+abbrev pub longest_message : ℕ
+longest_message = 60000
+
 abbrev pub ZoneNumber : ℕ → Type 0
-ZoneNumber n = (1 ≤ n) × (n ≤ 250)
+ZoneNumber n = (1 ≤ n) × (n ≤ last_zone)
 
 abbrev pub PointNumber : ℕ → Type 0
-PointNumber n = (1 ≤ n) × (n ≤ 1000)
+PointNumber n = (1 ≤ n) × (n ≤ last_point)
 
 -- 1 smoke, 2 heat, 3 call, 4 sounder
 abbrev pub KindNumber : ℕ → Type 0
-KindNumber n = (1 ≤ n) × (n ≤ 4)
+KindNumber n = (1 ≤ n) × (n ≤ last_kind)
 
 -- printable ASCII, or a line break
 abbrev pub NameByte : ℕ → Type 0
 NameByte b = ((0x20 ≤ b) × (b ≤ 0x7E)) ⊎ (b ≡ 0x0A)
 
 abbrev pub ZoneName : List ℕ → Type 0
-ZoneName name = (1 ≤ length name) × (length name ≤ 40) × AllByRecursion NameByte name
-
--- the most bytes that a message may have
-abbrev pub limit : ℕ
-limit = 60000
+ZoneName name = (1 ≤ length name) × (length name ≤ longest_name) × AllByRecursion NameByte name
 
 -- what a record declares
 abbrev pub DeclaresZone : ℕ → Record → Type 0
@@ -77,7 +90,7 @@ MissingFault before (rule z p) = ¬ (ZoneDeclared before z × PointDeclared befo
 
 -- 32: the message would pass its limit
 abbrev pub FullFault : List Record → Record → Type 0
-FullFault before r = limit < length (message (before ++ (r ∷ [])))
+FullFault before r = longest_message < length (message (before ++ (r ∷ [])))
 
 -- the row of a fault fits
 abbrev pub Fits : List Record → Record → RecordFault → Type 0

@@ -4,8 +4,8 @@ use Rattle.hashes.specs.Family.{Meaning, AtMost}
 use Rattle.hashes.specs.Word.{Bytes}
 use Rattle.register.specs.declared.fault.RecordFault.{RecordFault}
 use Rattle.register.specs.Records.{Record, zone, message}
-use Rattle.register.specs.Book.{ZoneName, InRange, Refused, Accepted, BookRecords, limit}
-use Rattle.register.specs.Known.{refusal}
+use Rattle.register.specs.Book.{ZoneName, InRange, Refused, Accepted, BookRecords, longest_message}
+use Rattle.register.specs.Known.{first_fault}
 use Rattle.register.specs.Run.{Input, Reply, Step, Run, step, run}
 use Rattle.register.specs.View.{View, standing, reply, after, sealed, key_of, pad_of, opening}
 use Rattle.register.specs.Writing.{put, filled_up, Holds, output_after}
@@ -16,8 +16,8 @@ use Rattle.register.specs.Check.{Passes}
 
 pub record RegisterFacts (M : Meaning) : Type 0 where
   -- the function `refusal` gives the first row that fits, or none
-  pub rows_agree : (before : List Record) (r : Record) (f : RecordFault) → (refusal before r ≡ Some f) ↔ Refused before r f
-  pub none_agrees : (before : List Record) (r : Record) → (refusal before r ≡ None) ↔ Accepted before r
+  pub rows_agree : (before : List Record) (r : Record) (f : RecordFault) → (first_fault before r ≡ Some f) ↔ Refused before r f
+  pub none_agrees : (before : List Record) (r : Record) → (first_fault before r ≡ None) ↔ Accepted before r
   -- the numbers and the name of a record that a book takes
   pub accepted_in_range : (before : List Record) (r : Record) → Accepted before r → InRange r
   pub accepted_name : (before : List Record) (n : ℕ) (name : List ℕ) → Accepted before (zone n name) → ZoneName name
@@ -28,7 +28,7 @@ pub record RegisterFacts (M : Meaning) : Type 0 where
   pub runs_extend : (before : List Record) (inputs : List Input) (input : Input) →
       run before (inputs ++ (input ∷ [])) ≡ ((run before inputs).0 ++ ((step (run before inputs).1 input).0 ∷ []), (step (run before inputs).1 input).1)
   -- the records of a new register are a book's, and their message is within its limit
-  pub runs_book : (inputs : List Input) (replies : List Reply) (rs : List Record) → Run [] inputs replies rs → BookRecords rs × (length (message rs) ≤ limit)
+  pub runs_book : (inputs : List Input) (replies : List Reply) (rs : List Record) → Run [] inputs replies rs → BookRecords rs × (length (message rs) ≤ longest_message)
   -- a register that opens has the key and the pad of the buffer, and took no record
   pub opens_new : (buffer : List ℕ) (v : View M) → Ok v ≡ opening M buffer → v ≡ standing M (key_of M buffer) (pad_of M buffer) []
   -- a call on a register that took records is a step of a run

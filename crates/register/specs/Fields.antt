@@ -38,6 +38,10 @@ seal_tag = 0x53
 abbrev pub seal_length : ℕ
 seal_length = 9
 
+-- the length of a whole seal field
+abbrev pub seal_field_length : ℕ
+seal_field_length = 3 + seal_length
+
 -- whether a field is a seal field
 abbrev pub is_seal : Field → Bool
 is_seal (field tag value) = tag == seal_tag && length value == seal_length

@@ -2,10 +2,10 @@
 use Rattle.std.specs.Prelude.{◌≡◌, ℕ, zero, suc, ◌+◌, ◌<◌, Bool, false, cond, ◌&&◌, ◌||◌, ◌≢◌, ◌⊎◌, List, [], ◌∷◌, ◌++◌, length, drop, Some, None, Option, ◌==◌, slice_index}
 use Rattle.register.specs.declared.fault.RecordFault.{RecordFault}
 use Rattle.register.specs.Records.{Record, Field, field, bytes_of, field_of, message}
-use Rattle.register.specs.Fields.{number_at, is_record_length, is_record, record_in, next_field, seal_tag, seal_length, is_seal}
+use Rattle.register.specs.Fields.{number_at, is_record_length, is_record, record_in, next_field, seal_tag, seal_length, seal_field_length, is_seal}
 use Rattle.register.specs.Faults.{number_of_record_fault}
 use Rattle.register.specs.Book.{Refused, Accepted}
-use Rattle.register.specs.Known.{refusal}
+use Rattle.register.specs.Known.{first_fault}
 
 -- the field that ends an image: the family's code, and eight seal bytes
 abbrev pub seal_field : ℕ → List ℕ → Field
@@ -49,7 +49,7 @@ pub data Checks (code : ℕ) : List Record → List ℕ → ℕ → Outcome → 
       BeginsRecord bytes r rest → Accepted before r → Checks code (before ++ (r ∷ [])) rest (offset + length (bytes_of (field_of r))) o →
       Checks code before bytes offset o
   trailing : {before : List Record} {bytes : List ℕ} {offset : ℕ} (c : ℕ) (seal rest : List ℕ) →
-      BeginsSeal bytes c seal rest → rest ≢ [] → Checks code before bytes offset (faulty 40 (offset + 12))
+      BeginsSeal bytes c seal rest → rest ≢ [] → Checks code before bytes offset (faulty 40 (offset + seal_field_length))
   other_code : {before : List Record} {bytes : List ℕ} {offset : ℕ} (c : ℕ) (seal : List ℕ) →
       BeginsSeal bytes c seal [] → c ≢ code → Checks code before bytes offset (faulty 41 offset)
   ends : {before : List Record} {bytes : List ℕ} {offset : ℕ} (seal : List ℕ) →
@@ -61,7 +61,7 @@ abbrev pub value_of : Field → List ℕ
 value_of (field tag value) = value
 
 abbrev pub seal_outcome : ℕ → List Record → ℕ → List ℕ → List ℕ → Outcome
-seal_outcome code before offset value (b ∷ rest) = faulty 40 (offset + 12)
+seal_outcome code before offset value (b ∷ rest) = faulty 40 (offset + seal_field_length)
 seal_outcome code before offset value [] = cond (slice_index value 0 == code) (compares before (drop 1 value)) (faulty 41 offset)
 
 abbrev pub record_outcome : ℕ → Outcome → Option RecordFault → Outcome
@@ -71,7 +71,7 @@ record_outcome offset later (Some f) = faulty (number_of_record_fault f) offset
 abbrev pub field_outcome : ℕ → List Record → ℕ → (Field → List ℕ → Outcome) → Option (Field × List ℕ) → Outcome
 field_outcome code before offset later None = faulty 40 offset
 field_outcome code before offset later (Some p) =
-    cond (is_record p.0) (record_outcome offset (later p.0 p.1) (refusal before (record_in p.0)))
+    cond (is_record p.0) (record_outcome offset (later p.0 p.1) (first_fault before (record_in p.0)))
     (cond (is_seal p.0) (seal_outcome code before offset (value_of p.0) p.1) (faulty 40 offset))
 
 abbrev pub check_from : ℕ → ℕ → List Record → List ℕ → ℕ → Outcome

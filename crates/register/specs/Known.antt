@@ -4,16 +4,18 @@ use Rattle.std.specs.List.{find, list_all, list_any}
 use Rattle.register.specs.declared.fault.RecordFault.{RecordFault}
 use Rattle.register.specs.declared.fault.RecordFault.TheVariants.{Range, Name, Repeated, Missing, Full}
 use Rattle.register.specs.Records.{Record, zone, point, rule, field_length, message}
-use Rattle.register.specs.Book.{limit, rows}
+use Rattle.register.specs.Book.{last_kind, last_point, last_zone, longest_message, longest_name, rows}
 
+-- whether a number is from the low to the high one
 abbrev pub within : ℕ → ℕ → ℕ → Bool
 within low high n = nat_le low n && nat_le n high
 
+-- the tests of the book's predicates
 abbrev pub name_byte : ℕ → Bool
 name_byte b = within 0x20 0x7E b || b == 0x0A
 
 abbrev pub zone_name : List ℕ → Bool
-zone_name name = within 1 40 (length name) && list_all name_byte name
+zone_name name = within 1 longest_name (length name) && list_all name_byte name
 
 abbrev pub declares_zone : ℕ → Record → Bool
 declares_zone z (zone n name) = n == z
@@ -37,13 +39,15 @@ pub record Known : Type 0 where
   pub points : ℕ → Bool
   pub bytes : ℕ
 
+-- what they ask of records that a book took
 abbrev pub known_of : List Record → Known
 known_of before = record { zones = zone_declared before; points = point_declared before; bytes = length (message before) }
 
+-- the rows, in the table's order
 abbrev pub in_range : Record → Bool
-in_range (zone n name) = within 1 250 n
-in_range (point n z kind) = within 1 1000 n && within 1 250 z && within 1 4 kind
-in_range (rule z p) = within 1 250 z && within 1 1000 p
+in_range (zone n name) = within 1 last_zone n
+in_range (point n z kind) = within 1 last_point n && within 1 last_zone z && within 1 last_kind kind
+in_range (rule z p) = within 1 last_zone z && within 1 last_point p
 
 abbrev pub range_fault : Record → Bool
 range_fault r = not (in_range r)
@@ -64,7 +68,7 @@ missing_fault known (point n z kind) = not (known.zones z)
 missing_fault known (rule z p) = not (known.zones z && known.points p)
 
 abbrev pub full_fault : Known → Record → Bool
-full_fault known r = nat_lt limit (known.bytes + field_length r)
+full_fault known r = nat_lt longest_message (known.bytes + field_length r)
 
 abbrev pub fits : Known → Record → RecordFault → Bool
 fits known r Range = range_fault r
@@ -74,11 +78,12 @@ fits known r Missing = missing_fault known r
 fits known r Full = full_fault known r
 
 -- the first row that fits, if any
-abbrev pub refusal_by : Known → Record → Option RecordFault
-refusal_by known r = find (fits known r) rows
+abbrev pub first_fault_by : Known → Record → Option RecordFault
+first_fault_by known r = find (fits known r) rows
 
-abbrev pub refusal : List Record → Record → Option RecordFault
-refusal before r = refusal_by (known_of before) r
+-- after records that a book took
+abbrev pub first_fault : List Record → Record → Option RecordFault
+first_fault before r = first_fault_by (known_of before) r
 
 -- the first row that fits a record whatever was taken before it, if any
 abbrev pub unsound : Record → Option RecordFault
@@ -105,6 +110,7 @@ with_declared known (zone n name) = with_zone known n
 with_declared known (point n z kind) = with_point known n
 with_declared known (rule z p) = known
 
+-- a record that is taken declares its number and makes the message longer
 abbrev pub with_record : Known → Record → Known
 with_record known r =
     record { zones = (with_declared known r).zones; points = (with_declared known r).points; bytes = known.bytes + field_length r }

@@ -14,7 +14,7 @@ pub mod Values
 pub mod Encoded
 pub mod Image
 pub mod ImageMessage
-pub mod Reading
+pub mod FieldPlaces
 pub mod Check
 pub mod Walking
 pub mod Facts

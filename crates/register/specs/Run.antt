@@ -4,7 +4,7 @@ use Rattle.register.specs.declared.fault.RecordFault.{RecordFault}
 use Rattle.register.specs.Records.{Record, message}
 use Rattle.register.specs.Faults.{number_of_record_fault}
 use Rattle.register.specs.Book.{Refused, Accepted}
-use Rattle.register.specs.Known.{refusal}
+use Rattle.register.specs.Known.{first_fault}
 
 -- What a call asks for: a record; nothing, as a blank line does; or a line that cannot be read, by the fault's number and column.
 pub data Input : Type 0 where
@@ -37,7 +37,7 @@ step_by before r None = (taken (length (message (before ++ (r ∷ [])))), before
 step_by before r (Some f) = (refused (number_of_record_fault f) 0, before)
 
 abbrev pub step : List Record → Input → Reply × List Record
-step before (a_record r) = step_by before r (refusal before r)
+step before (a_record r) = step_by before r (first_fault before r)
 step before no_record = (taken (length (message before)), before)
 step before (unread n column) = (refused n column, before)
 

@@ -7,7 +7,7 @@ use Rattle.register.specs.declared.fault.RecordFault.{RecordFault}
 use Rattle.register.specs.Faults.{number_of_record_fault}
 use Rattle.register.specs.Records.{Record, field_of, bytes_of, field_length, message}
 use Rattle.register.specs.Run.{Reply, taken, refused}
-use Rattle.register.specs.Known.{Known, known_of, with_record, refusal_by}
+use Rattle.register.specs.Known.{Known, known_of, with_record, first_fault_by}
 
 -- The state of the family, the pad, and what is known of the records taken.
 pub record View (M : Meaning) : Type 0 where
@@ -30,7 +30,7 @@ reply_by known r None = taken (known.bytes + field_length r)
 reply_by known r (Some f) = refused (number_of_record_fault f) 0
 
 abbrev pub reply : (M : Meaning) → View M → Record → Reply
-reply M v r = reply_by v.known r (refusal_by v.known r)
+reply M v r = reply_by v.known r (first_fault_by v.known r)
 
 -- what it leaves: the record's field is hashed and the record is in the book, or all is as it was
 abbrev pub after_by : (M : Meaning) → View M → Record → Option RecordFault → View M
@@ -38,7 +38,7 @@ after_by M v r None = record { state = absorbed M v.state (bytes_of (field_of r)
 after_by M v r (Some f) = v
 
 abbrev pub after : (M : Meaning) → View M → Record → View M
-after M v r = after_by M v r (refusal_by v.known r)
+after M v r = after_by M v r (first_fault_by v.known r)
 
 -- after a refusal the value itself is as it was
 abbrev pub Keeps : {R A E : Type 0} → Result A E → R → R → Type 0

@@ -3,7 +3,7 @@ use Rattle.std.specs.Prelude.{◌≡◌, ℕ, ◌+◌, ◌-◌, ◌≤◌, cond,
 use Rattle.hashes.specs.Family.{Meaning}
 use Rattle.register.specs.declared.fault.RecordFault.{RecordFault}
 use Rattle.register.specs.Records.{Record, field_of, bytes_of, message}
-use Rattle.register.specs.Known.{Known, refusal_by}
+use Rattle.register.specs.Known.{Known, first_fault_by}
 use Rattle.register.specs.View.{View}
 
 -- bytes written at a place, the others as they were
@@ -28,4 +28,4 @@ output_by known r out None = put out known.bytes (bytes_of (field_of r))
 output_by known r out (Some f) = out
 
 abbrev pub output_after : (M : Meaning) → View M → Record → List ℕ → List ℕ
-output_after M v r out = output_by v.known r out (refusal_by v.known r)
+output_after M v r out = output_by v.known r out (first_fault_by v.known r)

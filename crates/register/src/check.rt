@@ -1,7 +1,7 @@
 // The check of an image.
 ghost use Rattle.register.specs.Check.{Passes, checked, says, verdict_of};
-ghost use Rattle.register.specs.Reading.{place_of, value_in};
-ghost use Rattle.register.specs.Reading.{seal_in as seal_of};
+ghost use Rattle.register.specs.FieldPlaces.{place_of, value_in};
+ghost use Rattle.register.specs.FieldPlaces.{seal_in as seal_of};
 ghost use Rattle.register.specs.Values.{view};
 ghost use Rattle.register.specs.Walking.{Walks, seal_field_answer};
 ghost use Rattle.std.specs.Prelude.{◌≡◌, ◌+◌, ◌-◌, ◌≤◌, ◌↔◌, length, replicate};

@@ -5,7 +5,7 @@ ghost use Rattle.register.specs.Records.{bytes_of, field_of, two_bytes};
 ghost use Rattle.register.specs.Writing.{put};
 ghost use Rattle.std.specs.Prelude.{◌≡◌, ◌<◌};
 
-use crate::framing::{POINT, RULE, ZONE};
+use crate::framing::{POINT_TAG, RULE_TAG, ZONE_TAG};
 use crate::output::put_bytes;
 use crate::record::SiteRecord;
 use crate::sound::SoundRecord;
@@ -37,17 +37,17 @@ impl<'a> From<&SoundRecord<'a>> for EncodedField<'a> {
         match sound.site {
             SiteRecord::Zone { number, name } => {
                 let [hi, lo] = two_bytes(number);
-                EncodedField::Zone([ZONE, 0, 2 + name.len() as u8, hi, lo], name)
+                EncodedField::Zone([ZONE_TAG, 0, 2 + name.len() as u8, hi, lo], name)
             }
             SiteRecord::Point { number, zone, kind } => {
                 let [hi, lo] = two_bytes(number);
                 let [zone_hi, zone_lo] = two_bytes(zone);
-                EncodedField::Point([POINT, 0, 5, hi, lo, zone_hi, zone_lo, kind])
+                EncodedField::Point([POINT_TAG, 0, 5, hi, lo, zone_hi, zone_lo, kind])
             }
             SiteRecord::Rule { zone, point } => {
                 let [zone_hi, zone_lo] = two_bytes(zone);
                 let [hi, lo] = two_bytes(point);
-                EncodedField::Rule([RULE, 0, 4, zone_hi, zone_lo, hi, lo])
+                EncodedField::Rule([RULE_TAG, 0, 4, zone_hi, zone_lo, hi, lo])
             }
         }
     }

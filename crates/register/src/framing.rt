@@ -2,18 +2,18 @@
 ghost use Rattle.std.specs.Prelude.{◌+◌, ◌^◌, ◌<◌, ◌≤◌};
 
 // The tags of the fields.
-pub(crate) const ZONE: u8 = 1;
+pub(crate) const ZONE_TAG: u8 = 1;
 
-pub(crate) const POINT: u8 = 2;
+pub(crate) const POINT_TAG: u8 = 2;
 
-pub(crate) const RULE: u8 = 3;
+pub(crate) const RULE_TAG: u8 = 3;
 
-pub const SEAL: u8 = 0x53;
+pub const SEAL_TAG: u8 = 0x53;
 
 // The length of a seal field's value, a code and a seal, and of the whole field.
-pub const SEAL_VALUE: u8 = 9;
+pub const SEAL_VALUE_LEN: u8 = 9;
 
-pub const SEAL_FIELD: usize = 12;
+pub const SEAL_FIELD_LEN: usize = 12;
 
 // A field of an image: its tag, and where its value stands. By place and length and not as a slice, since a refusal answers the field's offset, and so
 // that fields are taken from any image in one way.
@@ -29,7 +29,7 @@ pub(crate) struct Field {
 }
 
 impl Field {
-    ghost use Rattle.register.specs.Reading.{first_place, place_of, value_in};
+    ghost use Rattle.register.specs.FieldPlaces.{first_place, place_of, value_in};
     ghost use Rattle.std.specs.Option.{option_map};
     ghost use Rattle.std.specs.Prelude.{◌≡◌, length};
 

@@ -2,9 +2,9 @@
 ghost use Rattle.std.specs.Prelude.{◌≡◌, ◌+◌, ◌-◌, ◌*◌, ◌≤◌, length};
 ghost use Rattle.std.specs.Iterator.{at_most};
 ghost use Rattle.std.specs.Option.{option_map};
-ghost use Rattle.register.specs.Reading.{ReadsNext, ReadsRecord, place_of, seal_in};
+ghost use Rattle.register.specs.FieldPlaces.{ReadsNext, ReadsRecord, place_of, seal_in};
 
-use crate::framing::{Field, POINT, RULE, SEAL, ZONE};
+use crate::framing::{Field, POINT_TAG, RULE_TAG, SEAL_TAG, ZONE_TAG};
 use crate::record::SiteRecord;
 use hashes::word::word_of;
 
@@ -54,16 +54,16 @@ pub(crate) fn record_in(tag: u8, value: &[u8]) -> Option<SiteRecord>
     ensures { ReadsRecord tag value.now result }
 {
     match (tag, value) {
-        (ZONE, [a, b, name @ ..]) => Some(SiteRecord::Zone {
+        (ZONE_TAG, [a, b, name @ ..]) => Some(SiteRecord::Zone {
             number: number(*a, *b),
             name,
         }),
-        (POINT, [a, b, c, d, kind]) => Some(SiteRecord::Point {
+        (POINT_TAG, [a, b, c, d, kind]) => Some(SiteRecord::Point {
             number: number(*a, *b),
             zone: number(*c, *d),
             kind: *kind,
         }),
-        (RULE, [a, b, c, d]) => Some(SiteRecord::Rule {
+        (RULE_TAG, [a, b, c, d]) => Some(SiteRecord::Rule {
             zone: number(*a, *b),
             point: number(*c, *d),
         }),
@@ -76,7 +76,7 @@ pub(crate) fn seal_in(tag: u8, value: &[u8]) -> Option<(u8, u64)>
     ensures { result ≡ seal_in tag value.now }
 {
     match (tag, value) {
-        (SEAL, [code, seal @ ..]) => Some((*code, word_of(seal)?)),
+        (SEAL_TAG, [code, seal @ ..]) => Some((*code, word_of(seal)?)),
         _ => None,
     }
 }

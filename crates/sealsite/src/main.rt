@@ -2,20 +2,20 @@
 #![tactic(auto)]
 
 ghost use Rattle.std.specs.Prelude.{◌≡◌, ◌<◌, length, take, replicate, Ok, Err, MatchResult};
-ghost use Rattle.line_reader.specs.SiteInput.{input_limit, site_seal};
+ghost use Rattle.line_reader.specs.SiteInput.{longest_input, input_answer};
 ghost use Rattle.std.specs.Io.{ReadsAtMost};
 
 use line_reader::fault::Refusal;
-use line_reader::site_input::{LIMIT, seal_input};
+use line_reader::site_input::{LONGEST_INPUT, seal_input};
 use std::io::Read;
 use std::{fmt, io};
 
 // One byte more than the longest input, so that a longer one is seen.
-const ROOM: usize = LIMIT + 1;
+const ROOM: usize = LONGEST_INPUT + 1;
 
 // Fills a buffer from standard input as far as that goes, and answers how far. An input that is too long does not fit.
 fn read_input(rt: &HostRuntime, buffer: &mut [u8]) -> io::Result<usize>
-    requires { input_limit < length buffer.old }
+    requires { longest_input < length buffer.old }
     ensures { ReadsAtMost result buffer.new }
 {
     let mut stdin = rt.stdin();
@@ -37,7 +37,7 @@ fn seal_read(
     read: io::Result<usize>,
 ) -> io::Result<Result<(usize, u64), Refusal>>
     requires { ReadsAtMost «read» buffer.old }
-    ensures seals { MatchResult «read» (λ n. result ≡ Ok (site_seal (take n buffer.old))) (λ e. result ≡ Err e) }
+    ensures seals { MatchResult «read» (λ n. result ≡ Ok (input_answer (take n buffer.old))) (λ e. result ≡ Err e) }
     ensures cleared { buffer.new ≡ replicate (length buffer.old) 0 }
 {
     let answer = read.map(|len| seal_input(&mut buffer[..len]));

@@ -2,7 +2,7 @@
 use crate::known;
 use crate::known::{Refused, Sealed};
 use line_reader::fault::Refusal;
-use line_reader::site_input::{LIMIT, seal_input};
+use line_reader::site_input::{LONGEST_INPUT, seal_input};
 use std::io;
 use std::io::Print;
 use tally::Tally;
@@ -89,7 +89,7 @@ const REFUSED: [Refused; 11] = [
 ];
 
 // One byte more than an input may have.
-const TOO_MANY: usize = LIMIT + 1;
+const TOO_MANY: usize = LONGEST_INPUT + 1;
 
 // The longest of the inputs here. Sealing zeroes its input, so a copy of each is sealed, in fixed memory, so that nothing here can run out of it.
 const ROOM: usize = 64;

@@ -89,16 +89,16 @@ fn compare<F: Family, const N: usize>(
     rt: &impl Print,
     tally: &mut Tally,
     what: &str,
-    key: [u8; N],
+    buffer: [u8; N],
     calls: &[Call],
     known: (u64, u64),
 ) -> io::Result<()> {
-    let mut buffer = key;
-    let mut buffer2 = key;
+    let mut buffer1 = buffer;
+    let mut buffer2 = buffer;
     let mut answers: [Result<usize, LineFault>; 7] = [Ok(0); 7];
     let mut answers2: [Result<usize, LineFault>; 7] = [Ok(0); 7];
     let sealed = handover::<Gather<F>>(
-        &mut buffer,
+        &mut buffer1,
         &BY_LINES,
         &mut answers,
         &mut buffer2,
@@ -121,13 +121,20 @@ fn compare<F: Family, const N: usize>(
 fn pair<F: Family, const N: usize>(
     rt: &impl Print,
     tally: &mut Tally,
-    texts: (&str, &str),
-    key: [u8; N],
+    labels: (&str, &str),
+    buffer: [u8; N],
     seal: u64,
     other: u64,
 ) -> io::Result<()> {
-    compare::<F, _>(rt, tally, texts.0, key, &by_records(b"A"), (seal, seal))?;
-    compare::<F, _>(rt, tally, texts.1, key, &by_records(b"B"), (seal, other))
+    compare::<F, _>(rt, tally, labels.0, buffer, &by_records(b"A"), (seal, seal))?;
+    compare::<F, _>(
+        rt,
+        tally,
+        labels.1,
+        buffer,
+        &by_records(b"B"),
+        (seal, other),
+    )
 }
 
 pub fn run(rt: &impl Print, tally: &mut Tally) -> io::Result<()> {

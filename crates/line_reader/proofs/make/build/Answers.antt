@@ -1,5 +1,6 @@
 -- A buffer that opens, the lines sent, and the seal field after the message.
 use Rattle.std.proofs.Common.{◌≡◌, ℕ, ◌+◌, ◌<◌, List, [], ◌∷◌, length, get_or, Ok, Err, Result, sym, ap, ◌∙◌, ap₂, arith}
+use Rattle.std.specs.Int.{bytes_high_first}
 use Rattle.std.proofs.lemmas.Result.{err_from_is_err_and}
 use Rattle.register.specs.Image.{seal_field}
 use Rattle.register.specs.Records.{bytes_of, message}
@@ -7,11 +8,11 @@ use Rattle.register.specs.View.{View, key_of, pad_of, seal, sealed}
 use Rattle.register.specs.Writing.{put}
 use Rattle.register.proofs.Checked.{opened_is}
 use Rattle.line_reader.specs.declared.fault.MakeFault.{MakeFault}
-use Rattle.line_reader.specs.Making.{Making, bytes_of_word, unmade}
+use Rattle.line_reader.specs.Making.{Making, unmade}
 use Rattle.line_reader.specs.Sending.{wiped}
 use Rattle.line_reader.proofs.Makings.{making_fits, making_full, opened_made}
 use Rattle.line_reader.proofs.make.build.Goals as goal
-use Rattle.line_reader.proofs.make.build.Goals.{then-at-out-via-then-at-out, then-at-out-via-else-at-out+then-out-at-lt-SEAL_FIELD}
+use Rattle.line_reader.proofs.make.build.Goals.{then-at-out-via-then-at-out, then-at-out-via-else-at-out+then-out-at-lt-SEAL_FIELD_LEN}
 
 -- a refusal leaves zeros, by the room
 abbrev unmade_in : ℕ → ℕ → ℕ → ℕ → Making
@@ -45,7 +46,7 @@ returns-then-at-out-clause-makes g c =
     let full : room < at + 12 =
     elim c.then-at-out.branch [
       | then-at-out-via-then-at-out w ↦ omega (arith, w.if-at-out.true, kept)
-      | then-at-out-via-else-at-out+then-out-at-lt-SEAL_FIELD w ↦ omega (arith, w.if-at-out.false, w.if-out-at-lt-SEAL_FIELD.true, kept)
+      | then-at-out-via-else-at-out+then-out-at-lt-SEAL_FIELD_LEN w ↦ omega (arith, w.if-at-out.false, w.if-out-at-lt-SEAL_FIELD_LEN.true, kept)
     ] in
     ap (unmade_in 50 0 0) kept
     ∙ sym (opened_made M buffer text room _ _ o s.1 ∙ making_full M (key_of M buffer) (pad_of M buffer) room s.0 (omega (arith, full, bytes)))
@@ -64,11 +65,11 @@ returns-clause-makes g c =
     let b = c.to_be_bytes.result in
     let f : List ℕ = 0x53 ∷ 0 ∷ 9 ∷ c.code.result ∷ get_or b 0 0 ∷ get_or b 1 0 ∷ get_or b 2 0 ∷ get_or b 3 0 ∷ get_or b 4 0 ∷ get_or b 5 0 ∷ get_or b 6 0 ∷ get_or b 7 0 ∷ [] in
     let sealing : c.close.result ≡ sealed M (key_of M buffer) (pad_of M buffer) s.0 = c.close.ensures ∙ ap (seal M) s.2 in
-    let field : f ≡ bytes_of (seal_field M.code (bytes_of_word (sealed M (key_of M buffer) (pad_of M buffer) s.0))) =
+    let field : f ≡ bytes_of (seal_field M.code (bytes_high_first 8 (sealed M (key_of M buffer) (pad_of M buffer) s.0))) =
     rw (c.to_be_bytes.ensures, c.code.ensures, sealing) in
-    let putting : c.put_bytes.new.out ≡ put c.send_lines.new.out (length (message s.0)) (bytes_of (seal_field M.code (bytes_of_word (sealed M (key_of M buffer) (pad_of M buffer) s.0)))) =
+    let putting : c.put_bytes.new.out ≡ put c.send_lines.new.out (length (message s.0)) (bytes_of (seal_field M.code (bytes_high_first 8 (sealed M (key_of M buffer) (pad_of M buffer) s.0)))) =
     c.put_bytes.ensures ∙ ap₂ (λ (n : ℕ) (x : List ℕ). put c.send_lines.new.out n x) bytes field in
     ap (λ (n : ℕ). wiped (Ok (n + 12)) c.put_bytes.new.out) bytes
     ∙ making_fits M (key_of M buffer) (pad_of M buffer) room s.0 c.send_lines.new.out _ s.3
-    (omega (arith, bytes, kept, c.if-at-out.false, c.if-out-at-lt-SEAL_FIELD.false)) putting
+    (omega (arith, bytes, kept, c.if-at-out.false, c.if-out-at-lt-SEAL_FIELD_LEN.false)) putting
     ∙ sym (opened_made M buffer text room _ _ o s.1)

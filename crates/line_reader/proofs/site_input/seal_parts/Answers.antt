@@ -9,4 +9,4 @@ pub returns-in_err-seal_by_family : goal.returns-in_err-seal_by_family
 returns-in_err-seal_by_family c =
     let p = err_from_is_err_and c.from_residual-in_err-seal_by_family.result c.from_residual-in_err-seal_by_family.ensures.1 in
     ap seal_answer (p.1 ∙ ap Err p.2)
-    ∙ seal_by_code c.args.input.now c.in_ok-code.code c.in_ok-family.family _ (omega (arith, c.if-input-gt-LIMIT.false)) c.code_of.ensures.bytes (search rules) c.in_ok-family.ensures c.in_err-seal_by_family.ensures
+    ∙ seal_by_code c.args.input.now c.in_ok-code.code c.in_ok-family.family _ (omega (arith, c.if-input-gt-LONGEST_INPUT.false)) c.code_of.ensures.bytes (search rules) c.in_ok-family.ensures c.in_err-seal_by_family.ensures

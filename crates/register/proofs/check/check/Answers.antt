@@ -3,7 +3,7 @@ use Rattle.std.proofs.lemmas.Result.{err_from_is_err_and}
 use Rattle.hashes.specs.KeyFault.{opened}
 use Rattle.register.specs.Values.{view}
 use Rattle.register.specs.View.{key_of, pad_of}
-use Rattle.register.proofs.Bytes.{typed_bytes}
+use Rattle.hashes.specs.Bytes.{typed_bytes}
 use Rattle.register.proofs.Checked.{opened_is, check_says, check_faults}
 use Rattle.register.proofs.Passing.{verdict_passes}
 use Rattle.register.proofs.Results.{mapped_ok}

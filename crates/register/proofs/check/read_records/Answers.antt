@@ -1,7 +1,7 @@
 use Rattle.std.proofs.Common.{◌≡◌, ℕ, List, None, sym, ap, ◌∙◌, of_calls}
 use Rattle.std.proofs.lemmas.Result.{err_from_is_err_and}
 use Rattle.register.specs.declared.fault.ImageFault.TheVariants.{Record as FaultyRecord}
-use Rattle.register.specs.Reading.{place_at, place_of}
+use Rattle.register.specs.FieldPlaces.{place_at, place_of}
 use Rattle.register.specs.Values.{record_of, view}
 use Rattle.register.specs.View.{reply_of}
 use Rattle.register.proofs.Results.{mapped_err, mapped_ok}

@@ -4,7 +4,7 @@ use Rattle.register.proofs.Encoding.{message_inj}
 use Rattle.register.proofs.ImageMessages.{message_agrees}
 use Rattle.register.proofs.Images.{check_is, check_only, unframed_iff}
 use Rattle.register.proofs.LongNames.{long_name}
-use Rattle.register.proofs.Rows.{refusal_iff, accepted_iff, accepted_in_range, accepted_name}
+use Rattle.register.proofs.Rows.{first_fault_iff, accepted_iff, accepted_in_range, accepted_name}
 use Rattle.register.proofs.Runs.{run_is, run_only, runs_extend, run_book}
 use Rattle.register.proofs.Steps.{calls_follow}
 use Rattle.register.proofs.Writings.{outputs_follow, put_more}
@@ -12,7 +12,7 @@ use Rattle.register.proofs.facts.register_facts.Goals as goal
 
 pub returns : goal.returns
 returns g c = record {
-  rows_agree = refusal_iff;
+  rows_agree = first_fault_iff;
   none_agrees = accepted_iff;
   accepted_in_range = accepted_in_range;
   accepted_name = accepted_name;

@@ -1,4 +1,4 @@
--- The numbers of kinds and of faults.
+-- The numbers of kinds and of reading faults.
 use Rattle.std.specs.Prelude.{ℕ}
 use Rattle.line_reader.specs.declared.fault.ReadFault.{ReadFault}
 use Rattle.line_reader.specs.declared.fault.ReadFault.TheVariants.{Syntax, Escape}
