@@ -1,15 +1,16 @@
 -- The evaluation hash's steps: a product by half bytes, and the bytes of a part.
-use Rattle.std.proofs.Common.{◌≡◌, ℕ, zero, suc, ◌+◌, ◌*◌, ◌/◌, ◌%◌, ◌^◌, ◌<◌, ◌≢◌, Bool, true, false, cond, eqb, List, [], ◌∷◌, ◌++◌, length, get_or, set, sym, refl, ap, ◌∙◌, ap₂, append_assoc, append-nil, mod-lt, mul_right_comm, zero-add, arith, length-append, pow_pos, pow-add, get_or-set_other, get_or-set_same, below_more}
+use Rattle.std.proofs.Common.{◌≡◌, ℕ, zero, suc, ◌+◌, ◌*◌, ◌/◌, ◌%◌, ◌^◌, ◌<◌, ◌≢◌, Bool, true, false, cond, eqb, List, [], ◌∷◌, ◌++◌, length, get_or, set, sym, refl, ap, ◌∙◌, ap₂, append_assoc, append-nil, mod-lt, mul_right_comm, zero-add, arith, length-append, pow_pos, get_or-set_other, get_or-set_same, below_more}
 use native.Mathlib.Decide.{ℕ_discrete}
-use native.Mathlib.Nat.{div-div-eq-div-mul, mod-one}
-use lib.Bits.{bit_xor, xor_comm, xor_shifted}
-use lib.Pow.{mod-pow-add, split}
+use native.Mathlib.Nat.{mod-one}
+use lib.Bits.{bit_xor, xor_shifted}
+use lib.Pow.{split}
 use Rattle.std.proofs.lemmas.Nat.{xor_lt}
 use Rattle.hashes.specs.Division.{division}
 use Rattle.hashes.specs.Evaluation.{evaluation_state, evaluation_family, evaluation_next, modulus, with_word}
 use Rattle.hashes.specs.Family.{absorbed}
 use Rattle.hashes.specs.Polynomial.{degree, remainder, times, times_mod}
 use Rattle.hashes.specs.Word.{word}
+use Rattle.hashes.proofs.Sums.{lower_digits, next_place}
 use Rattle.hashes.proofs.Multiples.{half_byte_up, multiple_one, multiple_up}
 use Rattle.hashes.specs.Divisors.{irreducible_pos}
 use Rattle.hashes.specs.FieldLemmas.{mod_assoc, mod_comm, mod_rem_l, mod_xor_l, mod_xor_r, mod_zero_l}
@@ -42,22 +43,16 @@ Power a j b = b ≡ times_mod modulus (2 ^ (8 * j)) a
 pub first_power : (a : ℕ) → a < 2 ^ 64 → Power a 0 a
 first_power a h = multiple_one 64 0x1B a (omega arith) h
 
-eight_more : (j : ℕ) → 2 ^ (8 * j) * 2 ^ 8 ≡ 2 ^ (8 * (j + 1))
-eight_more j = sym (pow-add 2 (8 * j) 8) ∙ ap (λ (n : ℕ). 2 ^ n) sum
-  where
-    sum : 8 * j + 8 ≡ 8 * (j + 1)
-    sum = omega arith
-
 pub next_power : (a j b c : ℕ) → Power a j b → c ≡ times_mod modulus 256 b → Power a (j + 1) c
 next_power a j b c p q =
-    q ∙ ap (times_mod modulus 256) p ∙ multiple_up modulus pos 8 (2 ^ (8 * j)) a ∙ ap (λ (x : ℕ). times_mod modulus x a) (eight_more j)
+    q ∙ ap (times_mod modulus 256) p ∙ multiple_up modulus pos 8 (2 ^ (8 * j)) a ∙ ap (λ (x : ℕ). times_mod modulus x a) (next_place 8 j)
 
 -- a row is the one in place j
-abbrev pub Row : ℕ → ℕ → List ℕ → Type 0
-Row a j row = (d : ℕ) → d < 16 → get_or row d 0 ≡ multiple a j d
+abbrev pub MultiplesRow : ℕ → ℕ → List ℕ → Type 0
+MultiplesRow a j row = (d : ℕ) → d < 16 → get_or row d 0 ≡ multiple a j d
 
 -- the multiples of x^(8j) times a
-pub row_at : (a j b : ℕ) (row : List ℕ) → Power a j b → ((d : ℕ) → d < 16 → get_or row d 0 ≡ times_mod modulus d b) → Row a j row
+pub row_at : (a j b : ℕ) (row : List ℕ) → Power a j b → ((d : ℕ) → d < 16 → get_or row d 0 ≡ times_mod modulus d b) → MultiplesRow a j row
 row_at a j b row p e d h =
     e d h ∙ ap (times_mod modulus d) p ∙ sym (mod_assoc modulus pos d (2 ^ (8 * j)) a) ∙ ap (λ (x : ℕ). times_mod modulus x a) shifted
     ∙ mod_rem_l modulus pos (d * 2 ^ (8 * j)) a
@@ -66,11 +61,11 @@ row_at a j b row p e d h =
     shifted = unfold times_mod in ap (λ (x : ℕ). remainder x modulus) (times_shl d (8 * j))
 
 -- the first n rows
-abbrev pub Rows : ℕ → ℕ → List (List ℕ) → Type 0
-Rows a n rows = (i : ℕ) → i < n → Row a i (get_or rows i [])
+abbrev pub MultiplesRows : ℕ → ℕ → List (List ℕ) → Type 0
+MultiplesRows a n rows = (i : ℕ) → i < n → MultiplesRow a i (get_or rows i [])
 
-pub rows_more : (a i : ℕ) (rows : List (List ℕ)) (row : List ℕ) → i < length rows → Row a i row → Rows a i rows → Rows a (i + 1) (set rows i row)
-rows_more a i rows row within filled before =
+pub multiples_rows_more : (a i : ℕ) (rows : List (List ℕ)) (row : List ℕ) → i < length rows → MultiplesRow a i row → MultiplesRows a i rows → MultiplesRows a (i + 1) (set rows i row)
+multiples_rows_more a i rows row within filled before =
     below_more _ _
     (λ k l d h. let ne : k ≢ i = omega arith in rw get_or-set_other (before k l d h))
     (λ d h. rw get_or-set_same (filled d h))
@@ -85,16 +80,6 @@ pub none_added : (a v : ℕ) → Added a (v % 1) 0 0
 none_added a v =
     ap (λ (x : ℕ). bit_xor x 0) (mod_comm modulus pos 16 0 ∙ mod_zero_l modulus pos 16)
     ∙ sym (ap (λ (x : ℕ). times_mod modulus x a) (mod-one v) ∙ mod_zero_l modulus pos a)
-
--- one byte more
-low_more : (v j : ℕ) → v % 2 ^ (8 * (j + 1)) ≡ bit_xor (v % 2 ^ (8 * j)) (v / 2 ^ (8 * j) % 256 * 2 ^ (8 * j))
-low_more v j =
-    ap (λ (n : ℕ). v % 2 ^ n) eight ∙ mod-pow-add v 8 (8 * j)
-    ∙ sym (xor_shifted (v / 2 ^ (8 * j) % 256) (8 * j) (v % 2 ^ (8 * j)) (mod-lt v (pow_pos (8 * j))))
-    ∙ xor_comm (v / 2 ^ (8 * j) % 256 * 2 ^ (8 * j)) (v % 2 ^ (8 * j))
-  where
-    eight : 8 * (j + 1) ≡ 8 + 8 * j
-    eight = omega arith
 
 -- both halves of a byte b in place j
 both_halves : (a j b low high : ℕ) → low ≡ multiple a j (b % 16) → high ≡ multiple a j (b / 16) → Added a (b * 2 ^ (8 * j)) low high
@@ -115,11 +100,7 @@ byte_added a v j r low high d e left p q before =
     ∙ ap₂ bit_xor before (both_halves a j (r % 256) d e (p ∙ ap (multiple a j) (omega arith)) (q ∙ ap (multiple a j) (omega arith)))
     ∙ ap (λ (x : ℕ). bit_xor (times_mod modulus (v % 2 ^ (8 * j)) a) (times_mod modulus (x % 256 * 2 ^ (8 * j)) a)) left
     ∙ sym (mod_xor_l modulus pos (v % 2 ^ (8 * j)) (v / 2 ^ (8 * j) % 256 * 2 ^ (8 * j)) a)
-    ∙ ap (λ (x : ℕ). times_mod modulus x a) (sym (low_more v j))
-
--- what is left of v above the bytes up to place j
-pub bytes_left : (v j : ℕ) → v / 2 ^ (8 * j) / 256 ≡ v / 2 ^ (8 * (j + 1))
-bytes_left v j = div-div-eq-div-mul v (2 ^ (8 * j)) 256 ∙ ap (λ (n : ℕ). v / n) (eight_more j)
+    ∙ ap (λ (x : ℕ). times_mod modulus x a) (sym (lower_digits 8 v j))
 
 -- ---- a part
 

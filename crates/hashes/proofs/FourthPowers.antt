@@ -7,7 +7,7 @@ use Rattle.hashes.specs.FieldLemmas.{mod_assoc, mod_one_l, mod_rem_l, mod_rem_r,
 use Rattle.hashes.specs.Frobenius.{frobenius, frobenius_add, frobenius_times, frobenius_xor}
 use Rattle.hashes.specs.Polynomial.{degree, remainder, times_mod}
 use Rattle.hashes.specs.Remainder.{remainder_small}
-use Rattle.hashes.specs.DivisionSteps.{division_one}
+use Rattle.hashes.specs.DivisionSteps.{division_of_one}
 use Rattle.hashes.specs.Words.{times_shl, word_degree, word_pos}
 
 module _ (p : ℕ) (pos : 0 < p) where
@@ -84,7 +84,7 @@ pub six_squarings : (w : ℕ) → w < 2 ^ 64 → frobenius (2 ^ 64 + w) 6 2 ≡ 
 six_squarings w h = frobenius_x (2 ^ 64 + w) (word_pos 64 w) 6 1 (suc-le-suc zero-le) ∙ top
   where
     top : remainder (2 ^ 64) (2 ^ 64 + w) ≡ w
-    top = unfold division in division_one 64 w h
+    top = unfold division in division_of_one 64 w h
 
 -- ---- the rows of the table
 

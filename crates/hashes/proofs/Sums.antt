@@ -1,5 +1,5 @@
 -- Tables of additive functions: filled by doubling, and read by half bytes.
-use Rattle.std.proofs.Common.{◌≡◌, ℕ, zero, suc, ◌+◌, ◌-◌, ◌*◌, ◌/◌, ◌%◌, ◌^◌, ◌<◌, ◌≤◌, ◌⊎◌, inl, inr, List, [], get_or, replicate, refl, sym, ap, ap₂, ◌∙◌, arith, mod-lt, zero-lt-suc, one-mul, pow_mono, pow_pos, pow-add}
+use Rattle.std.proofs.Common.{◌≡◌, ℕ, zero, suc, ◌+◌, ◌-◌, ◌*◌, ◌/◌, ◌%◌, ◌^◌, ◌<◌, ◌≤◌, ◌⊎◌, inl, inr, List, [], get_or, replicate, refl, sym, ap, ap₂, ◌∙◌, arith, mod-lt, zero-lt-suc, one-mul, pow_mono, pow_pos, pow-add, mul-add, mul-one, add_comm}
 use Rattle.std.proofs.lemmas.Bool.{cases_lt}
 use native.Mathlib.Nat.{div-div-eq-div-mul, mod-one}
 use lib.Bits.{bit_xor, xor_comm, xor_self, xor_shifted}
@@ -63,26 +63,35 @@ whole_power n r N e l g = go (cases_lt r n)
 pub room_for_double : (k r N : ℕ) → k < r → 2 ^ r ≤ N → 2 ^ k + 2 ^ k ≤ N
 room_for_double k r N h l = let m : 2 ^ (k + 1) ≤ 2 ^ r = pow_mono {i = k + 1} {j = r} (omega arith) in omega (arith, pow-add 2 k 1)
 
+-- ---- digits of w bits
+
+place_more : (w j : ℕ) → w * (j + 1) ≡ w * j + w
+place_more w j = omega (arith, mul-add w j 1, mul-one w)
+
+-- the digits below place j + 1: those below place j, and the one at place j
+pub lower_digits : (w v j : ℕ) → v % 2 ^ (w * (j + 1)) ≡ bit_xor (v % 2 ^ (w * j)) (v / 2 ^ (w * j) % 2 ^ w * 2 ^ (w * j))
+lower_digits w v j =
+    ap (λ (n : ℕ). v % 2 ^ n) (place_more w j ∙ add_comm (w * j) w) ∙ mod-pow-add v w (w * j)
+    ∙ sym (xor_shifted (v / 2 ^ (w * j) % 2 ^ w) (w * j) (v % 2 ^ (w * j)) (mod-lt v (pow_pos (w * j))))
+    ∙ xor_comm (v / 2 ^ (w * j) % 2 ^ w * 2 ^ (w * j)) (v % 2 ^ (w * j))
+
+pub next_place : (w j : ℕ) → 2 ^ (w * j) * 2 ^ w ≡ 2 ^ (w * (j + 1))
+next_place w j = sym (pow-add 2 (w * j) w) ∙ ap (λ (n : ℕ). 2 ^ n) (sym (place_more w j))
+
+-- the digits from place j + 1 on: those from place j on, without the lowest
+pub higher_digits : (w v j : ℕ) → v / 2 ^ (w * j) / 2 ^ w ≡ v / 2 ^ (w * (j + 1))
+higher_digits w v j = div-div-eq-div-mul v (2 ^ (w * j)) (2 ^ w) ∙ ap (λ (n : ℕ). v / n) (next_place w j)
+
 -- ---- a table by half bytes
 
 pub no_half_byte : (f : ℕ → ℕ) (v : ℕ) → Additive f → 0 ≡ f (v % 1)
 no_half_byte f v add = sym (ap f (mod-one v) ∙ additive_zero f add)
 
--- one half byte more
-low_more : (v j : ℕ) → v % 2 ^ (4 * (j + 1)) ≡ bit_xor (v % 2 ^ (4 * j)) (v / 2 ^ (4 * j) % 16 * 2 ^ (4 * j))
-low_more v j =
-    ap (λ (n : ℕ). v % 2 ^ n) four_more ∙ mod-pow-add v 4 (4 * j)
-    ∙ sym (xor_shifted (v / 2 ^ (4 * j) % 16) (4 * j) (v % 2 ^ (4 * j)) (mod-lt v (pow_pos (4 * j))))
-    ∙ xor_comm (v / 2 ^ (4 * j) % 16 * 2 ^ (4 * j)) (v % 2 ^ (4 * j))
-  where
-    four_more : 4 * (j + 1) ≡ 4 + 4 * j
-    four_more = omega arith
-
 -- s stands for the half bytes below place j, and e for that at place j
 half_byte_more : (f : ℕ → ℕ) → Additive f → (v j s e : ℕ) → s ≡ f (v % 2 ^ (4 * j)) → e ≡ f (v / 2 ^ (4 * j) % 16 * 2 ^ (4 * j))
     → bit_xor s e ≡ f (v % 2 ^ (4 * (j + 1)))
 half_byte_more f add v j s e p q =
-    ap₂ bit_xor p q ∙ sym (add (v % 2 ^ (4 * j)) (v / 2 ^ (4 * j) % 16 * 2 ^ (4 * j))) ∙ ap f (sym (low_more v j))
+    ap₂ bit_xor p q ∙ sym (add (v % 2 ^ (4 * j)) (v / 2 ^ (4 * j) % 16 * 2 ^ (4 * j))) ∙ ap f (sym (lower_digits 4 v j))
 
 -- the entry for what is left of v
 pub half_byte_step : (f : ℕ → ℕ) (rows : List (List ℕ)) (v j s r : ℕ) → Additive f → HalfByteRows f rows → j < 16 → r ≡ v / 2 ^ (4 * j) → s ≡ f (v % 2 ^ (4 * j))
@@ -92,8 +101,4 @@ half_byte_step f rows v j s r add filled h left e =
 
 -- what is left of v above the half bytes up to place j
 pub half_bytes_left : (v j : ℕ) → v / 2 ^ (4 * j) / 16 ≡ v / 2 ^ (4 * (j + 1))
-half_bytes_left v j =
-    div-div-eq-div-mul v (2 ^ (4 * j)) 16 ∙ ap (λ (n : ℕ). v / n) (sym (pow-add 2 (4 * j) 4) ∙ ap (λ (n : ℕ). 2 ^ n) four_more)
-  where
-    four_more : 4 * j + 4 ≡ 4 * (j + 1)
-    four_more = omega arith
+half_bytes_left v j = higher_digits 4 v j

@@ -29,15 +29,15 @@ module _ {A : Type 0} where
   without_length here = refl
   without_length (there w) = ap suc (without_length w)
 
-  pub without_∈ : (v : A) {x : A} {zs ys : List A} → Without x zs ys → v ∈ ys → (v ≡ x) ⊎ (v ∈ zs)
-  without_∈ v here m = m
-  without_∈ v (there w) (inl e) = inr (inl e)
-  without_∈ v (there w) (inr m) = elim (without_∈ v w m) [ inl e ↦ inl e | inr k ↦ inr (inr k) ]
+  pub ∈_without : (v : A) {x : A} {zs ys : List A} → Without x zs ys → v ∈ ys → (v ≡ x) ⊎ (v ∈ zs)
+  ∈_without v here m = m
+  ∈_without v (there w) (inl e) = inr (inl e)
+  ∈_without v (there w) (inr m) = elim (∈_without v w m) [ inl e ↦ inl e | inr k ↦ inr (inr k) ]
 
   -- the elements of xs other than x stand in what is left of ys
   pub rest_inside : (x : A) (xs zs ys : List A) → ¬ (x ∈ xs) → ((v : A) → v ∈ (x ∷ xs) → v ∈ ys) → Without x zs ys → (v : A) → v ∈ xs → v ∈ zs
   rest_inside x xs zs ys new sub w v m =
-      elim (without_∈ v w (sub v (inr m))) [ inl e ↦ absurd (new (subst (λ (u : A). u ∈ xs) e m)) | inr k ↦ k ]
+      elim (∈_without v w (sub v (inr m))) [ inl e ↦ absurd (new (subst (λ (u : A). u ∈ xs) e m)) | inr k ↦ k ]
 
   -- PIGEONHOLE: a list without repeats whose elements all stand in ys is no longer than ys.
   pub distinct_inside : (xs ys : List A) → Distinct xs → ((v : A) → v ∈ xs → v ∈ ys) → length xs ≤ length ys

@@ -20,17 +20,17 @@ division_hash p m = division 64 p (message_polynomial m)
 
 -- the remainder so far, moved on by one byte: times x^8, and the byte times x^n added
 unfoldable pub division_step : ℕ → ℕ → ℕ → ℕ → ℕ
-division_step n p rest b = remainder (bit_xor (rest * 2 ^ 8) (b * 2 ^ n)) (2 ^ n + p)
+division_step n p residue b = remainder (bit_xor (residue * 2 ^ 8) (b * 2 ^ n)) (2 ^ n + p)
 
 -- ---- the family
 
 -- between two bytes: the key's word, and the remainder so far
 pub record DivisionState : Type 0 where
   pub p : ℕ
-  pub rest : ℕ
+  pub residue : ℕ
 
 abbrev pub division_state : ℕ → ℕ → DivisionState
-division_state p rest = record { p = p; rest = rest }
+division_state p residue = record { p = p; residue = residue }
 
 -- The first remainder is that of the leading one: x^64 modulo x^64 + p is p.
 abbrev pub division_family : Meaning
@@ -40,8 +40,8 @@ division_family = record {
   key_len = 8;
   refusal = λ key. reducible_refusal (word key);
   first = λ key. division_state (word key) (word key);
-  next = λ s b. division_state s.p (division_step 64 s.p s.rest b);
-  close = λ s. s.rest;
+  next = λ s b. division_state s.p (division_step 64 s.p s.residue b);
+  close = λ s. s.residue;
   bound = λ L. L / 8 + 1;
 }
 

@@ -14,8 +14,8 @@ use Rattle.hashes.specs.Counting.{∈_all}
 use Rattle.hashes.specs.DivisionLaw.{division_law}
 use Rattle.hashes.specs.DivisionSteps.{division_run}
 use Rattle.hashes.specs.Keys.{distinct_words, irreducible_taken, reducible_refused}
-use Rattle.hashes.specs.Messages.{message_injective, message_lt}
-use Rattle.hashes.specs.Pairs.{map_∈}
+use Rattle.hashes.specs.Messages.{message_polynomial_injective, message_lt}
+use Rattle.hashes.specs.Pairs.{∈_map_source}
 use Rattle.hashes.specs.Remainder.{remainder_lt}
 use Rattle.hashes.specs.Words.{word_degree, word_pos}
 
@@ -28,7 +28,7 @@ division_absorbed p r (b ∷ m) = division_absorbed p (division_step 64 p r b) m
 
 division_formula : (key m : List ℕ) → Bytes key → length key ≡ 8 → Bytes m → hash division_family key m ≡ division_hash (word key) m
 division_formula key m hk sized h =
-    ap (λ (s : DivisionState). s.rest) (division_absorbed (word key) (word key) m) ∙ division_run 64 (word key) m (word_64 key hk sized) h
+    ap (λ (s : DivisionState). s.residue) (division_absorbed (word key) (word key) m) ∙ division_run 64 (word key) m (word_64 key hk sized) h
 
 pub division_facts : DivisionFacts
 division_facts = record { formula = division_formula; keys = λ key. irreducible_taken (word key); others = λ key. reducible_refused (word key) }
@@ -61,7 +61,7 @@ division_bounded m n d hm hn ne (k ∷ ks) apart all = few
     differ : (w : ℕ) → w ∈ map word (k ∷ ks)
         → (w < 2 ^ 64) × Irreducible (2 ^ 64 + w) × (bit_xor (division 64 w (message_polynomial m)) (division 64 w (message_polynomial n)) ≡ d)
     differ w i =
-        let (key, j, e) = map_∈ word w (k ∷ ks) i in
+        let (key, j, e) = ∈_map_source word w (k ∷ ks) i in
         let is = (one key j).0 in
         subst (λ (v : ℕ). (v < 2 ^ 64) × Irreducible (2 ^ 64 + v) × (bit_xor (division 64 v (message_polynomial m)) (division 64 v (message_polynomial n)) ≡ d))
         (sym e) (
@@ -72,7 +72,7 @@ division_bounded m n d hm hn ne (k ∷ ks) apart all = few
 
     few : length (k ∷ ks) ≤ L / 8 + 1
     few =
-        let law = division_law 64 (8 * L) (message_polynomial m) (message_polynomial n) d (λ e. ne (message_injective m n hm hn e))
+        let law = division_law 64 (8 * L) (message_polynomial m) (message_polynomial n) d (λ e. ne (message_polynomial_injective m n hm hn e))
         (message_lt L m hm (le-max_left (length m) (length n))) (message_lt L n hn (le-max_right (length m) (length n))) d_lt
         (map word (k ∷ ks)) (distinct_words 8 (k ∷ ks) apart (λ key i. ((one key i).0.bytes, (one key i).0.sized))) differ in
         let count : length (map word (k ∷ ks)) ≡ length (k ∷ ks) = length-map (k ∷ ks) word in

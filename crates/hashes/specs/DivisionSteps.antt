@@ -12,8 +12,8 @@ use Rattle.hashes.specs.Words.{division_word, remainder_append, table_step, word
 use Rattle.std.specs.Int.Digits.{number_from_digits_after}
 
 -- x^n modulo x^n + w
-pub division_one : (n w : ℕ) → w < 2 ^ n → division n w 1 ≡ w
-division_one n w h =
+pub division_of_one : (n w : ℕ) → w < 2 ^ n → division n w 1 ≡ w
+division_of_one n w h =
     division_word n w 1 h
     ∙ (unfold times_mod in
     (ap (λ (x : ℕ). remainder x (2 ^ n + w)) (times_one_l w) ∙ remainder_small (2 ^ n + w) (word_pos n w) w (rw (word_degree n w h) h)))
@@ -32,4 +32,4 @@ division_moved n p M (b ∷ m) h = ap (λ (r : ℕ). fold (division_step n p) r 
 
 pub division_run : (n p : ℕ) (m : List ℕ) → p < 2 ^ n → Bytes m → fold (division_step n p) p m ≡ division n p (message_polynomial m)
 division_run n p m hp h =
-    ap (λ (r : ℕ). fold (division_step n p) r m) (sym (division_one n p hp)) ∙ division_moved n p 1 m h ∙ ap (division n p) (message_after m)
+    ap (λ (r : ℕ). fold (division_step n p) r m) (sym (division_of_one n p hp)) ∙ division_moved n p 1 m h ∙ ap (division n p) (message_after m)

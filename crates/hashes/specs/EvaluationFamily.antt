@@ -19,7 +19,7 @@ use Rattle.hashes.specs.EvaluationMessage.{length_words, message_words_cons, mes
 use Rattle.hashes.specs.FieldLemmas.{mod_lt}
 use Rattle.hashes.specs.Keys.{distinct_words, point_taken, zero_refused}
 use Rattle.hashes.specs.Modulus.{modulus_degree, modulus_irreducible}
-use Rattle.hashes.specs.Pairs.{map_∈}
+use Rattle.hashes.specs.Pairs.{∈_map_source}
 use Rattle.std.proofs.lemmas.Bool.{eq-eqb, ne_eqb}
 
 -- ---- the formula
@@ -112,7 +112,7 @@ few m n d hm hn ne le d_lt keys apart all =
     differ : (a : ℕ) → a ∈ map word keys
         → (a < 2 ^ degree modulus) × (bit_xor (evaluation modulus a (message_words m)) (evaluation modulus a (message_words n)) ≡ d)
     differ a i =
-        let (key, j, e) = map_∈ word a keys i in
+        let (key, j, e) = ∈_map_source word a keys i in
         let is = (all key j).0 in
         subst (λ (v : ℕ). (v < 2 ^ degree modulus) × (bit_xor (evaluation modulus v (message_words m)) (evaluation modulus v (message_words n)) ≡ d))
         (sym e) (

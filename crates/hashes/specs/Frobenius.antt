@@ -20,9 +20,9 @@ unfoldable pub frobenius : ℕ → ℕ → ℕ → ℕ
 frobenius p zero a = a
 frobenius p (suc k) a = let r = frobenius p k a in times_mod p r r
 
--- the polynomial g at the residue y modulo p
-unfoldable pub at : ℕ → ℕ → ℕ → ℕ
-at p g y = horner (λ r d. bit_xor (times_mod p r y) d) g
+-- the value of the polynomial g at the residue y modulo p
+unfoldable pub value_at : ℕ → ℕ → ℕ → ℕ
+value_at p g y = horner (λ r d. bit_xor (times_mod p r y) d) g
 
 module _ (p : ℕ) (pos : 0 < p) where
   -- ---- squares
@@ -65,22 +65,22 @@ module _ (p : ℕ) (pos : 0 < p) where
   frobenius_add zero k a = ap (λ (x : ℕ). frobenius p x a) (zero-add k)
   frobenius_add (suc j) k a = ap (λ (x : ℕ). frobenius p x a) (suc-add j k) ∙ ap (λ (x : ℕ). times_mod p x x) (frobenius_add j k a)
 
-  -- ---- a polynomial at a residue
+  -- ---- the value of a polynomial at a residue
 
-  at_zero : (y : ℕ) → at p 0 y ≡ 0
-  unfolding at
-  at_zero y = horner_zero (λ r d. bit_xor (times_mod p r y) d)
+  value_zero : (y : ℕ) → value_at p 0 y ≡ 0
+  unfolding value_at
+  value_zero y = horner_zero (λ r d. bit_xor (times_mod p r y) d)
 
-  at_step : (g y : ℕ) → at p g y ≡ bit_xor (times_mod p (at p (g / 2) y) y) (g % 2)
-  unfolding at
-  at_step g y = horner_step (λ r d. bit_xor (times_mod p r y) d) (xor_zero_r (times_mod p 0 y) ∙ mod_zero_l p pos y) g
+  value_step : (g y : ℕ) → value_at p g y ≡ bit_xor (times_mod p (value_at p (g / 2) y) y) (g % 2)
+  unfolding value_at
+  value_step g y = horner_step (λ r d. bit_xor (times_mod p r y) d) (xor_zero_r (times_mod p 0 y) ∙ mod_zero_l p pos y) g
 
-  pub at_rem : (g y : ℕ) → at p g (remainder y p) ≡ at p g y
-  at_rem g y =
-      bin_ind (λ (g : ℕ). at p g (remainder y p) ≡ at p g y) (at_zero (remainder y p) ∙ sym (at_zero y))
-      (λ g ih. at_step g (remainder y p)
-      ∙ ap (λ (x : ℕ). bit_xor x (g % 2)) (mod_rem_r p pos (at p (g / 2) (remainder y p)) y ∙ ap (λ (x : ℕ). times_mod p x y) ih)
-      ∙ sym (at_step g y)) g
+  pub value_rem : (g y : ℕ) → value_at p g (remainder y p) ≡ value_at p g y
+  value_rem g y =
+      bin_ind (λ (g : ℕ). value_at p g (remainder y p) ≡ value_at p g y) (value_zero (remainder y p) ∙ sym (value_zero y))
+      (λ g ih. value_step g (remainder y p)
+      ∙ ap (λ (x : ℕ). bit_xor x (g % 2)) (mod_rem_r p pos (value_at p (g / 2) (remainder y p)) y ∙ ap (λ (x : ℕ). times_mod p x y) ih)
+      ∙ sym (value_step g y)) g
 
   doubled : (a : ℕ) → times_mod p a 2 ≡ remainder (a * 2) p
   unfolding times_mod
@@ -97,10 +97,10 @@ module _ (p : ℕ) (pos : 0 < p) where
     last_small g = digit_small (g % 2) (digit_lt g (zero-lt-suc 1))
 
     -- at x itself it is the remainder
-    pub at_x : (g : ℕ) → at p g 2 ≡ remainder g p
-    at_x =
-        bin_ind (λ (g : ℕ). at p g 2 ≡ remainder g p) (at_zero 2 ∙ sym (remainder_small p pos 0 (pow_pos (degree p))))
-        (λ g ih. at_step g 2
+    pub value_x : (g : ℕ) → value_at p g 2 ≡ remainder g p
+    value_x =
+        bin_ind (λ (g : ℕ). value_at p g 2 ≡ remainder g p) (value_zero 2 ∙ sym (remainder_small p pos 0 (pow_pos (degree p))))
+        (λ g ih. value_step g 2
         ∙ ap₂ bit_xor (ap (λ (x : ℕ). times_mod p x 2) ih ∙ mod_rem_l p pos (g / 2) 2 ∙ doubled (g / 2)) (sym (remainder_small p pos (g % 2) (last_small g)))
         ∙ sym (remainder_xor p pos (g / 2 * 2) (g % 2))
         ∙ ap (λ (x : ℕ). remainder x p) (by_last g))
@@ -113,19 +113,19 @@ module _ (p : ℕ) (pos : 0 < p) where
         go (inl e) = rw e (mod_zero_l p pos 0)
         go (inr e) = rw e (mod_one_l p pos 1 ∙ remainder_small p pos 1 one_lt)
 
-    square_at : (g y : ℕ) → square (at p g y) ≡ at p g (square y)
-    square_at g y =
-        bin_ind (λ (g : ℕ). square (at p g y) ≡ at p g (square y))
-        (ap square (at_zero y) ∙ square_digit 0 (zero-lt-suc 1) ∙ sym (at_zero (square y)))
-        (λ g ih. ap square (at_step g y)
-        ∙ square_xor (times_mod p (at p (g / 2) y) y) (g % 2)
-        ∙ ap₂ bit_xor (square_times (at p (g / 2) y) y ∙ ap (λ (x : ℕ). times_mod p x (square y)) ih) (square_digit (g % 2) (digit_lt g (zero-lt-suc 1)))
-        ∙ sym (at_step g (square y))) g
+    square_value : (g y : ℕ) → square (value_at p g y) ≡ value_at p g (square y)
+    square_value g y =
+        bin_ind (λ (g : ℕ). square (value_at p g y) ≡ value_at p g (square y))
+        (ap square (value_zero y) ∙ square_digit 0 (zero-lt-suc 1) ∙ sym (value_zero (square y)))
+        (λ g ih. ap square (value_step g y)
+        ∙ square_xor (times_mod p (value_at p (g / 2) y) y) (g % 2)
+        ∙ ap₂ bit_xor (square_times (value_at p (g / 2) y) y ∙ ap (λ (x : ℕ). times_mod p x (square y)) ih) (square_digit (g % 2) (digit_lt g (zero-lt-suc 1)))
+        ∙ sym (value_step g (square y))) g
 
-    pub frobenius_at : (k g y : ℕ) → frobenius p k (at p g y) ≡ at p g (frobenius p k y)
+    pub frobenius_value : (k g y : ℕ) → frobenius p k (value_at p g y) ≡ value_at p g (frobenius p k y)
     unfolding frobenius square
-    frobenius_at zero g y = refl
-    frobenius_at (suc k) g y = ap square (frobenius_at k g y) ∙ square_at g (frobenius p k y)
+    frobenius_value zero g y = refl
+    frobenius_value (suc k) g y = ap square (frobenius_value k g y) ∙ square_value g (frobenius p k y)
 
     pub frobenius_zero : (k : ℕ) → frobenius p k 0 ≡ 0
     unfolding frobenius square
@@ -133,18 +133,18 @@ module _ (p : ℕ) (pos : 0 < p) where
     frobenius_zero (suc k) = ap square (frobenius_zero k) ∙ square_digit 0 (zero-lt-suc 1)
 
     -- every polynomial with a nonzero coefficient is a polynomial function
-    pub at_polynomial : (g : ℕ) → 0 < g → Polynomial p (degree g) (at p g)
-    at_polynomial =
-        bin_ind (λ (g : ℕ). 0 < g → Polynomial p (degree g) (at p g)) (λ h. absurd (lt_irrefl 0 h)) (λ g ih h. step g ih h (eq-zero-or-pos (g / 2)))
+    pub value_polynomial : (g : ℕ) → 0 < g → Polynomial p (degree g) (value_at p g)
+    value_polynomial =
+        bin_ind (λ (g : ℕ). 0 < g → Polynomial p (degree g) (value_at p g)) (λ h. absurd (lt_irrefl 0 h)) (λ g ih h. step g ih h (eq-zero-or-pos (g / 2)))
       where
-        at_one : (y : ℕ) → at p 1 y ≡ 1
-        at_one y = at_step 1 y ∙ ap (λ (x : ℕ). bit_xor (times_mod p x y) 1) (at_zero y) ∙ ap (λ (x : ℕ). bit_xor x 1) (mod_zero_l p pos y)
+        value_one : (y : ℕ) → value_at p 1 y ≡ 1
+        value_one y = value_step 1 y ∙ ap (λ (x : ℕ). bit_xor (times_mod p x y) 1) (value_zero y) ∙ ap (λ (x : ℕ). bit_xor x 1) (mod_zero_l p pos y)
 
-        step : (g : ℕ) → (0 < g / 2 → Polynomial p (degree (g / 2)) (at p (g / 2))) → 0 < g → (g / 2 ≡ 0) ⊎ (0 < g / 2) → Polynomial p (degree g) (at p g)
+        step : (g : ℕ) → (0 < g / 2 → Polynomial p (degree (g / 2)) (value_at p (g / 2))) → 0 < g → (g / 2 ≡ 0) ⊎ (0 < g / 2) → Polynomial p (degree g) (value_at p g)
         step g ih h (inl e) =
             let k : g ≡ 1 = omega arith in
-            rw (k, degree_one) (constant 1 (λ z. ne_of_lt (zero-lt-suc 0) (sym z)) one_lt at_one)
-        step g ih h (inr k) = rw (degree_half g k) (next (g % 2) (ih k) (last_small g) (at_step g))
+            rw (k, degree_one) (constant 1 (λ z. ne_of_lt (zero-lt-suc 0) (sym z)) one_lt value_one)
+        step g ih h (inr k) = rw (degree_half g k) (next (g % 2) (ih k) (last_small g) (value_step g))
 
   -- ---- powers
 

@@ -28,9 +28,10 @@ abbrev pub opened : {F S : Type 0} → (F → S) → Result F KeyFault → Answe
 opened read (Ok f) = Ok (read f)
 opened read (Err e) = Err (number_of_key_fault e)
 
-abbrev pub judged : {S : Type 0} → S → Option ℕ → Answer S
-judged s None = Ok s
-judged s (Some n) = Err n
+-- what was asked for, unless there is a fault
+abbrev pub judged : {A E : Type 0} → A → Option E → Result A E
+judged a None = Ok a
+judged a (Some e) = Err e
 
 -- what opening a family by a string answers: a string of another length is refused by 1
 abbrev pub family_opening : (M : Meaning) → List ℕ → Answer M.State

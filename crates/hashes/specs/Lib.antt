@@ -2,7 +2,6 @@
 pub mod Lists
 pub mod Word
 pub mod Polynomial
-pub mod Additive
 pub mod Irreducible
 pub mod Laws
 pub mod Field
@@ -25,11 +24,13 @@ pub mod Degree
 pub mod Remainder
 pub mod Divisors
 pub mod Words
+-- additive functions and their tables
+pub mod Additive
 -- residues modulo a polynomial, and the test of irreducible polynomials
 pub mod FieldLemmas
 pub mod Roots
 pub mod Evaluate
-pub mod Images
+pub mod ValuesBelow
 pub mod Frobenius
 pub mod Period
 pub mod Least

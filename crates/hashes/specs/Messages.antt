@@ -24,8 +24,8 @@ message_lead m h = word_lead (8 * length m) (word m) (rw (← (byte_power (lengt
 pub message_lt : (L : ℕ) (m : List ℕ) → Bytes m → length m ≤ L → message_polynomial m < 2 ^ suc (8 * L)
 message_lt L m h le = lt_of_lt_of_le (lead_high (message_polynomial m) (8 * length m) (message_lead m h)) (pow_mono (omega arith))
 
-pub message_injective : (m n : List ℕ) → Bytes m → Bytes n → message_polynomial m ≡ message_polynomial n → m ≡ n
-message_injective m n hm hn e = word_injective m n hm hn same words
+pub message_polynomial_injective : (m n : List ℕ) → Bytes m → Bytes n → message_polynomial m ≡ message_polynomial n → m ≡ n
+message_polynomial_injective m n hm hn e = word_injective m n hm hn same words
   where
     same : length m ≡ length n
     same =

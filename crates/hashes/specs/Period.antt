@@ -18,8 +18,8 @@ use Rattle.hashes.specs.Remainder.{remainder_lt, remainder_small, remainder_mult
 use Rattle.hashes.specs.Divisors.{irreducible_pos}
 use Rattle.hashes.specs.FieldLemmas.{mod_lt, mod_xor_l, mod_one_l, field_zero}
 use Rattle.hashes.specs.Roots.{Polynomial, constant, next, roots}
-use Rattle.hashes.specs.Images.{images, length_images, images_all, apart_or, all_apart}
-use Rattle.hashes.specs.Frobenius.{frobenius, at, square, frobenius_lt, frobenius_xor, frobenius_add, at_rem, at_x, frobenius_at, frobenius_zero, at_polynomial, frobenius_power, one_lt}
+use Rattle.hashes.specs.ValuesBelow.{values_below, length_values_below, values_below_all, apart_or, all_apart}
+use Rattle.hashes.specs.Frobenius.{frobenius, value_at, square, frobenius_lt, frobenius_xor, frobenius_add, value_rem, value_x, frobenius_value, frobenius_zero, value_polynomial, frobenius_power, one_lt}
 
 module _ (p : ℕ) (irr : Irreducible p) where
   pos : 0 < p
@@ -47,8 +47,8 @@ module _ (p : ℕ) (irr : Irreducible p) where
   frobenius_kernel zero a h e = e
   frobenius_kernel (suc k) a h e = frobenius_kernel k a h (square_zero (frobenius p k a) (frobenius_lt p pos k a h) e)
 
-  frobenius_inj : (k a b : ℕ) → a < 2 ^ degree p → b < 2 ^ degree p → frobenius p k a ≡ frobenius p k b → a ≡ b
-  frobenius_inj k a b ha hb e =
+  frobenius_injective : (k a b : ℕ) → a < 2 ^ degree p → b < 2 ^ degree p → frobenius p k a ≡ frobenius p k b → a ≡ b
+  frobenius_injective k a b ha hb e =
       xor_zero a b (frobenius_kernel k (bit_xor a b) (xor_lt (degree p) a b ha hb)
       (frobenius_xor p pos k a b ∙ ap (λ (y : ℕ). bit_xor y (frobenius p k b)) e ∙ xor_self (frobenius p k b)))
 
@@ -57,12 +57,12 @@ module _ (p : ℕ) (irr : Irreducible p) where
   conjugate : ℕ → ℕ
   conjugate k = frobenius p k x
 
-  conjugate_root : (k : ℕ) → (conjugate k < 2 ^ degree p) × (at p p (conjugate k) ≡ 0)
+  conjugate_root : (k : ℕ) → (conjugate k < 2 ^ degree p) × (value_at p p (conjugate k) ≡ 0)
   unfolding conjugate x
   conjugate_root k = (
     frobenius_lt p pos k (remainder 2 p) (remainder_lt p pos 2),
-    sym (frobenius_at p pos deg k p (remainder 2 p))
-        ∙ ap (frobenius p k) (at_rem p pos p 2 ∙ at_x p pos deg p ∙ ap (λ (y : ℕ). remainder y p) (sym (times_one_l p)) ∙ remainder_multiple p pos 1)
+    sym (frobenius_value p pos deg k p (remainder 2 p))
+        ∙ ap (frobenius p k) (value_rem p pos p 2 ∙ value_x p pos deg p ∙ ap (λ (y : ℕ). remainder y p) (sym (times_one_l p)) ∙ remainder_multiple p pos 1)
         ∙ frobenius_zero p pos deg k,
   )
 
@@ -70,17 +70,17 @@ module _ (p : ℕ) (irr : Irreducible p) where
   unfolding conjugate x
   conjugates = go (apart_or conjugate (suc (degree p)))
     where
-      go : Distinct (images conjugate (suc (degree p))) ⊎ ((i : ℕ) × (j : ℕ) × (i < j) × (j < suc (degree p)) × (conjugate i ≡ conjugate j))
+      go : Distinct (values_below conjugate (suc (degree p))) ⊎ ((i : ℕ) × (j : ℕ) × (i < j) × (j < suc (degree p)) × (conjugate i ≡ conjugate j))
           → (m : ℕ) × (1 ≤ m) × (m ≤ degree p) × (frobenius p m (remainder 2 p) ≡ remainder 2 p)
       go (inl apart) =
-          absurd (lt_irrefl (degree p) (le_trans (le_of_eq (sym (length_images conjugate (suc (degree p)))))
-          (roots p irr (degree p) (at p p) (at_polynomial p pos deg p pos) (images conjugate (suc (degree p))) apart
-          (images_all (λ (y : ℕ). (y < 2 ^ degree p) × (at p p y ≡ 0)) conjugate (suc (degree p)) (λ i h. conjugate_root i)))))
+          absurd (lt_irrefl (degree p) (le_trans (le_of_eq (sym (length_values_below conjugate (suc (degree p)))))
+          (roots p irr (degree p) (value_at p p) (value_polynomial p pos deg p pos) (values_below conjugate (suc (degree p))) apart
+          (values_below_all (λ (y : ℕ). (y < 2 ^ degree p) × (value_at p p y ≡ 0)) conjugate (suc (degree p)) (λ i h. conjugate_root i)))))
       go (inr (i, j, l, h, e)) = (
         j - i,
         omega arith,
         omega arith,
-        frobenius_inj i (frobenius p (j - i) x) x (frobenius_lt p pos (j - i) x (remainder_lt p pos 2)) (remainder_lt p pos 2)
+        frobenius_injective i (frobenius p (j - i) x) x (frobenius_lt p pos (j - i) x (remainder_lt p pos 2)) (remainder_lt p pos 2)
             (sym (frobenius_add p pos i (j - i) x) ∙ ap (λ (k : ℕ). frobenius p k x) (add-sub_of_le (le_of_lt l)) ∙ sym e),
       )
 
@@ -110,10 +110,10 @@ module _ (p : ℕ) (irr : Irreducible p) where
   fixed : (m : ℕ) → frobenius p m x ≡ x → (a : ℕ) → a < 2 ^ degree p → frobenius p m a ≡ a
   unfolding x
   fixed m e a h =
-      ap (frobenius p m) (sym here) ∙ frobenius_at p pos deg m a (remainder 2 p) ∙ ap (at p a) e ∙ here
+      ap (frobenius p m) (sym here) ∙ frobenius_value p pos deg m a (remainder 2 p) ∙ ap (value_at p a) e ∙ here
     where
-      here : at p a (remainder 2 p) ≡ a
-      here = at_rem p pos a 2 ∙ at_x p pos deg a ∙ remainder_small p pos a h
+      here : value_at p a (remainder 2 p) ≡ a
+      here = value_rem p pos a 2 ∙ value_x p pos deg a ∙ remainder_small p pos a h
 
   power_lt : (k y : ℕ) → power p (suc k) y < 2 ^ degree p
   unfolding power
@@ -143,13 +143,13 @@ module _ (p : ℕ) (irr : Irreducible p) where
 
       count : 2 ^ degree p ≤ 2 ^ suc m
       count =
-          le_trans (le_of_eq (sym (length_images (λ i. i) (2 ^ degree p))))
-          (le_trans (roots p irr (suc (suc k)) (difference k) (difference_polynomial k) (images (λ i. i) (2 ^ degree p)) apart
-          (images_all (λ (y : ℕ). (y < 2 ^ degree p) × (difference k y ≡ 0)) (λ i. i) (2 ^ degree p)
+          le_trans (le_of_eq (sym (length_values_below (λ i. i) (2 ^ degree p))))
+          (le_trans (roots p irr (suc (suc k)) (difference k) (difference_polynomial k) (values_below (λ i. i) (2 ^ degree p)) apart
+          (values_below_all (λ (y : ℕ). (y < 2 ^ degree p) × (difference k y ≡ 0)) (λ i. i) (2 ^ degree p)
           (λ i l. (l, difference_root m k is_two e i l))))
           (le_of_eq (sym is_two)))
         where
-          apart : Distinct (images (λ i. i) (2 ^ degree p))
+          apart : Distinct (values_below (λ i. i) (2 ^ degree p))
           apart = all_apart (2 ^ degree p)
 
       go : Dec (suc m < degree p) → degree p ≤ suc m

@@ -18,8 +18,8 @@ use Rattle.hashes.specs.ToeplitzMessage.{bit_polynomial, toeplitz_is, difference
 
 -- ---- a polynomial acts on the words
 
-pub difference_is : (n p s : ℕ) (a b : List ℕ) → bit_xor (toeplitz n p s a) (toeplitz n p s b) ≡ act (lfsr n p) (bit_xor (bit_polynomial a) (bit_polynomial b)) s
-difference_is n p s a b = ap₂ bit_xor (toeplitz_is n p s a) (toeplitz_is n p s b) ∙ sym (act_xor (lfsr n p) (lfsr_xor n p) (bit_polynomial a) (bit_polynomial b) s)
+pub toeplitz_difference : (n p s : ℕ) (a b : List ℕ) → bit_xor (toeplitz n p s a) (toeplitz n p s b) ≡ act (lfsr n p) (bit_xor (bit_polynomial a) (bit_polynomial b)) s
+toeplitz_difference n p s a b = ap₂ bit_xor (toeplitz_is n p s a) (toeplitz_is n p s b) ∙ sym (act_xor (lfsr n p) (lfsr_xor n p) (bit_polynomial a) (bit_polynomial b) s)
 
 module _ (n p : ℕ) (pos : 1 ≤ n) (p_lt : p < 2 ^ n) where
   -- a multiple of x^n + p annuls every word
@@ -69,26 +69,26 @@ abbrev pub Differ : ℕ → ℕ → ℕ → List ℕ → List ℕ → ℕ → Ty
 Differ n p s a b d = bit_xor (toeplitz n p s a) (toeplitz n p s b) ≡ d
 
 -- the taps p for which x^n + p is irreducible and divides d
-pub record Bad (n d p : ℕ) : Type 0 where
+pub record DividingTaps (n d p : ℕ) : Type 0 where
   pub word : p < 2 ^ n
   pub irreducible : Irreducible (2 ^ n + p)
   pub divides : Divides (2 ^ n + p) d
 
-pub few_bad : (n m d : ℕ) → 1 ≤ n → 0 < d → degree d ≤ m → (ps : List ℕ) → Distinct ps → AllByRecursion (Bad n d) ps → length ps ≤ m / n
-few_bad n m d pos d_pos d_le ps dist bad =
+pub few_dividing_taps : (n m d : ℕ) → 1 ≤ n → 0 < d → degree d ≤ m → (ps : List ℕ) → Distinct ps → AllByRecursion (DividingTaps n d) ps → length ps ≤ m / n
+few_dividing_taps n m d pos d_pos d_le ps dist bad =
     (le-div_iff_mul-le pos).1 (le_trans (irreducible_divisors (λ p. 2 ^ n + p) (λ j k e. omega arith) n d d_pos ps dist each) d_le)
   where
     each : (p : ℕ) → p ∈ ps → Irreducible (2 ^ n + p) × (degree (2 ^ n + p) ≡ n) × Divides (2 ^ n + p) d
-    each p m = let b = ∈_all (Bad n d) p ps bad m in (b.irreducible, word_degree n p b.word, b.divides)
+    each p m = let b = ∈_all (DividingTaps n d) p ps bad m in (b.irreducible, word_degree n p b.word, b.divides)
 
 -- Messages that are not equal, and have L bytes at most: distinct keys whose hashes of the two have one difference number 2^n (floor(8 L / n) + 1) at most.
 pub toeplitz_law : (n : ℕ) → 1 ≤ n → (a b : List ℕ) (L w : ℕ) (ks : List (ℕ × ℕ)) → Bytes a → Bytes b → a ≢ b → length a ≤ L → length b ≤ L
     → Distinct ks → AllByRecursion (λ k. PairKey n k) ks → AllByRecursion (λ k. Differ n k.0 k.1 a b w) ks → length ks ≤ 2 ^ n * (8 * L / n + 1)
 toeplitz_law n pos a b L w ks a_bytes b_bytes ne a_le b_le dist keys same =
-    pairs_bound (2 ^ n) (8 * L / n) (Bad n d) (few_bad n (8 * L) d pos (difference_pos a b L a_bytes b_bytes ne a_le b_le) (difference_degree a b L a_bytes b_bytes ne a_le b_le))
+    pairs_bound (2 ^ n) (8 * L / n) (DividingTaps n d) (few_dividing_taps n (8 * L) d pos (difference_pos a b L a_bytes b_bytes ne a_le b_le) (difference_degree a b L a_bytes b_bytes ne a_le b_le))
     ks dist
     (all_from_∈ (λ e. (e.0 < 2 ^ n) × (e.1 < 2 ^ n)) ks (λ e m. ((key e m).taps_word, (key e m).state_word)))
-    (all_from_∈ (λ e. Bad n d e.0 ⊎ ((f : ℕ × ℕ) → f ∈ ks → f.0 ≡ e.0 → f ≡ e)) ks
+    (all_from_∈ (λ e. DividingTaps n d e.0 ⊎ ((f : ℕ × ℕ) → f ∈ ks → f.0 ≡ e.0 → f ≡ e)) ks
     (λ e m. sides e m (decide_divides (2 ^ n + e.0) d (irreducible_pos (key e m).irreducible))))
   where
     d : ℕ
@@ -98,9 +98,9 @@ toeplitz_law n pos a b L w ks a_bytes b_bytes ne a_le b_le dist keys same =
     key e m = ∈_all (λ k. PairKey n k) e ks keys m
 
     acts : (e : ℕ × ℕ) → e ∈ ks → act (lfsr n e.0) d e.1 ≡ w
-    acts e m = sym (difference_is n e.0 e.1 a b) ∙ ∈_all (λ k. Differ n k.0 k.1 a b w) e ks same m
+    acts e m = sym (toeplitz_difference n e.0 e.1 a b) ∙ ∈_all (λ k. Differ n k.0 k.1 a b w) e ks same m
 
-    sides : (e : ℕ × ℕ) → e ∈ ks → Dec (Divides (2 ^ n + e.0) d) → Bad n d e.0 ⊎ ((f : ℕ × ℕ) → f ∈ ks → f.0 ≡ e.0 → f ≡ e)
+    sides : (e : ℕ × ℕ) → e ∈ ks → Dec (Divides (2 ^ n + e.0) d) → DividingTaps n d e.0 ⊎ ((f : ℕ × ℕ) → f ∈ ks → f.0 ≡ e.0 → f ≡ e)
     sides e m (yes h) = inl (record { word = (key e m).taps_word; irreducible = (key e m).irreducible; divides = h })
     sides e m (no h) =
         inr (λ f k t.

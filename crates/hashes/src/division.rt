@@ -34,38 +34,39 @@ impl Table {
     }
 
     // What a byte adds to a remainder: the entry at the remainder's top byte and the new one.
-    fn entry(&self, rest: u64, byte: u8) -> u64
-        ensures { result ≡ division 64 self.now.p (bit_xor (rest / 2 ^ 56) byte) }
+    fn entry(&self, residue: u64, byte: u8) -> u64
+        ensures { result ≡ division 64 self.now.p (bit_xor (residue / 2 ^ 56) byte) }
     {
-        self.words[(rest >> 56) as usize ^ usize::from(byte)]
+        self.words[(residue >> 56) as usize ^ usize::from(byte)]
     }
 
     // The remainder moved on by one byte, with one lookup. The other bytes are moved up by one.
     #[tactic(auto, using(crate::specs::DivisionSteps::division_lookup))]
-    fn step(&self, rest: u64, byte: u8) -> u64
-        ensures { result ≡ division_step 64 self.now.p rest byte }
+    fn step(&self, residue: u64, byte: u8) -> u64
+        ensures { result ≡ division_step 64 self.now.p residue byte }
     {
-        (rest << 8) ^ self.entry(rest, byte)
+        (residue << 8) ^ self.entry(residue, byte)
     }
 
     // The remainder moved on by each byte of a part.
-    fn absorb(&self, rest: u64, part: &[u8]) -> u64
-        ensures { result ≡ fold (division_step 64 self.now.p) rest part.now }
+    fn absorb(&self, residue: u64, part: &[u8]) -> u64
+        ensures { result ≡ fold (division_step 64 self.now.p) residue part.now }
     {
-        part.iter().fold(rest, |rest, b| self.step(rest, *b))
+        part.iter()
+            .fold(residue, |residue, b| self.step(residue, *b))
     }
 }
 
 #[derive(Drop)]
 pub struct Division {
     table: Table,
-    rest: u64,
+    residue: u64,
 }
 
 impl Family for Division {
     ghost meaning = { division_family };
 
-    ghost state = { λ d. division_state d.table.p d.rest };
+    ghost state = { λ d. division_state d.table.p d.residue };
 
     ghost lawful = { division_lawful };
 
@@ -84,17 +85,17 @@ impl Family for Division {
         }
         Ok(Division {
             table: Table::new(p),
-            rest: p,
+            residue: p,
         })
     }
 
     #[tactic(auto, using(crate::specs::DivisionFamily::division_absorbed))]
     fn absorb(&mut self, part: &[u8]) {
-        self.rest = self.table.absorb(self.rest, part);
+        self.residue = self.table.absorb(self.residue, part);
     }
 
     fn digest(&mut self) -> u64 {
-        self.rest
+        self.residue
     }
 }
 
