@@ -35,11 +35,11 @@ module _ (p : ℕ) (pos : 0 < p) where
   pub fourth_add : Additive (frobenius p 2)
   fourth_add = frobenius_xor p pos 2
 
-  pub fourth_one : 1 < 2 ^ degree p → 1 ≡ frobenius p 2 1
+  fourth_one : 1 < 2 ^ degree p → 1 ≡ frobenius p 2 1
   fourth_one h = sym (frobenius_x 2 0 (suc-le-suc zero-le) ∙ remainder_small p pos 1 h)
 
   -- the next power of x
-  pub fourth_up : (i : ℕ) → times_mod p (2 ^ 4) (frobenius p 2 (2 ^ i)) ≡ frobenius p 2 (2 ^ (i + 1))
+  fourth_up : (i : ℕ) → times_mod p (2 ^ 4) (frobenius p 2 (2 ^ i)) ≡ frobenius p 2 (2 ^ (i + 1))
   fourth_up i =
       ap (times_mod p (2 ^ 4)) (frobenius_x 2 i (suc-le-suc zero-le)) ∙ mod_rem_r p pos (2 ^ 4) (2 ^ (i * 2 ^ 2)) ∙ powers 4 (i * 2 ^ 2)
       ∙ ap (λ (n : ℕ). remainder (2 ^ n) p) next ∙ sym (frobenius_x 2 (i + 1) (suc-le-suc zero-le))
@@ -47,7 +47,7 @@ module _ (p : ℕ) (pos : 0 < p) where
       next : 4 + i * 4 ≡ (i + 1) * 4
       next = omega arith
 
-  pub fourth_shifted : (d i : ℕ) → times_mod p (frobenius p 2 d) (frobenius p 2 (2 ^ i)) ≡ frobenius p 2 (d * 2 ^ i)
+  fourth_shifted : (d i : ℕ) → times_mod p (frobenius p 2 d) (frobenius p 2 (2 ^ i)) ≡ frobenius p 2 (d * 2 ^ i)
   fourth_shifted d i =
       sym (frobenius_times p pos 2 d (2 ^ i)) ∙ ap (frobenius p 2) (shifted d i) ∙ frobenius_start p 2 (d * 2 ^ i) pos (suc-le-suc zero-le)
 
@@ -56,7 +56,7 @@ module _ (p : ℕ) (pos : 0 < p) where
   pub entry_add : (a : ℕ) → Additive (λ d. times_mod p (frobenius p 2 d) a)
   entry_add a d e = ap (λ (x : ℕ). times_mod p x a) (fourth_add d e) ∙ mod_xor_l p pos (frobenius p 2 d) (frobenius p 2 e) a
 
-  pub entry_one : (a : ℕ) → 1 < 2 ^ degree p → a < 2 ^ degree p → a ≡ times_mod p (frobenius p 2 1) a
+  entry_one : (a : ℕ) → 1 < 2 ^ degree p → a < 2 ^ degree p → a ≡ times_mod p (frobenius p 2 1) a
   entry_one a one h = sym (ap (λ (x : ℕ). times_mod p x a) (sym (fourth_one one)) ∙ mod_one_l p pos a ∙ remainder_small p pos a h)
 
   pub entry_up : (a k : ℕ) → times_mod p (2 ^ 4) (times_mod p (frobenius p 2 (2 ^ k)) a) ≡ times_mod p (frobenius p 2 (2 ^ (k + 1))) a

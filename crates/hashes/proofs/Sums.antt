@@ -6,7 +6,7 @@ use lib.Bits.{bit_xor, xor_comm, xor_self, xor_shifted}
 use lib.Pow.{mod-pow-add}
 use Rattle.hashes.specs.Additive.{Additive, HalfByteRows}
 
-pub additive_zero : (f : ℕ → ℕ) → Additive f → f 0 ≡ 0
+additive_zero : (f : ℕ → ℕ) → Additive f → f 0 ≡ 0
 additive_zero f add = add 0 0 ∙ xor_self (f 0)
 
 -- ---- a table that is filled by doubling

@@ -30,15 +30,15 @@ unfolding act
 act_zero_l T s = horner_zero (λ r c. bit_xor (T r) (c * s))
 
 module _ (T : ℕ → ℕ) (T_xor : (a b : ℕ) → T (bit_xor a b) ≡ bit_xor (T a) (T b)) where
-  pub T_zero : T 0 ≡ 0
+  T_zero : T 0 ≡ 0
   T_zero = T_xor 0 0 ∙ xor_self (T 0)
 
-  pub act_step : (d s : ℕ) → act T d s ≡ bit_xor (T (act T (d / 2) s)) (d % 2 * s)
+  act_step : (d s : ℕ) → act T d s ≡ bit_xor (T (act T (d / 2) s)) (d % 2 * s)
   unfolding act
   act_step d s = horner_step (λ r c. bit_xor (T r) (c * s)) (ap₂ bit_xor T_zero (zero-mul s)) d
 
   -- linear in the word
-  pub act_xor_r : (d s t : ℕ) → act T d (bit_xor s t) ≡ bit_xor (act T d s) (act T d t)
+  act_xor_r : (d s t : ℕ) → act T d (bit_xor s t) ≡ bit_xor (act T d s) (act T d t)
   act_xor_r d s t =
       bin_ind (λ (d : ℕ). act T d (bit_xor s t) ≡ bit_xor (act T d s) (act T d t))
       (act_zero_l T (bit_xor s t) ∙ sym (ap₂ bit_xor (act_zero_l T s) (act_zero_l T t)))
@@ -65,7 +65,7 @@ module _ (T : ℕ → ℕ) (T_xor : (a b : ℕ) → T (bit_xor a b) ≡ bit_xor 
   act_one s = act_step 1 s ∙ ap₂ bit_xor (ap T (act_zero_l T s) ∙ T_zero) (one-mul s)
 
   -- x times a polynomial
-  pub act_dbl : (d s : ℕ) → act T (d * 2) s ≡ T (act T d s)
+  act_dbl : (d s : ℕ) → act T (d * 2) s ≡ T (act T d s)
   act_dbl d s =
       act_step (d * 2) s
       ∙ ap₂ (λ (x y : ℕ). bit_xor (T (act T x s)) (y * s)) (mul-div_cancel d (zero-lt-suc 1)) (mul-mod_left d 2)

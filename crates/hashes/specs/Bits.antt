@@ -14,15 +14,15 @@ pub digit_lt : (a : ℕ) → a % 2 < 2
 digit_lt a = mod-lt a (zero-lt-suc 1)
 
 -- numbers are equal where their last bits are, and what stands above these
-pub by_halves : (a b : ℕ) → a / 2 ≡ b / 2 → a % 2 ≡ b % 2 → a ≡ b
+by_halves : (a b : ℕ) → a / 2 ≡ b / 2 → a % 2 ≡ b % 2 → a ≡ b
 by_halves a b h k = omega arith
 
 -- ---- bit_and
 
-pub half_and : (a b : ℕ) → bit_and a b / 2 ≡ bit_and (a / 2) (b / 2)
+half_and : (a b : ℕ) → bit_and a b / 2 ≡ bit_and (a / 2) (b / 2)
 half_and a b = and_shr a b 1
 
-pub digit_and : (a b : ℕ) → bit_and a b % 2 ≡ bit_and (a % 2) (b % 2)
+digit_and : (a b : ℕ) → bit_and a b % 2 ≡ bit_and (a % 2) (b % 2)
 digit_and a b = and_mod a b 1
 
 and_xor_digit : (x y z : ℕ) → x < 2 → y < 2 → z < 2 → bit_and (bit_xor x y) z ≡ bit_xor (bit_and x z) (bit_and y z)
@@ -50,7 +50,7 @@ and_xor a b c =
 
 -- ---- parity
 
-pub add_digits : (x y : ℕ) → (x + y) % 2 ≡ bit_xor (x % 2) (y % 2)
+add_digits : (x y : ℕ) → (x + y) % 2 ≡ bit_xor (x % 2) (y % 2)
 add_digits x y = go (digit_cases (digit_lt x)) (digit_cases (digit_lt y))
   where
     go : (x % 2 ≡ 0) ⊎ (x % 2 ≡ 1) → (y % 2 ≡ 0) ⊎ (y % 2 ≡ 1) → (x + y) % 2 ≡ bit_xor (x % 2) (y % 2)

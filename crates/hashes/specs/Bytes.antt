@@ -10,7 +10,7 @@ use Rattle.std.proofs.lemmas.List.{drop_all}
 use Rattle.std.specs.Int.Digits.{number_from_digits_after}
 
 -- a list of eight, by its elements
-pub eight_entries : (xs : List ℕ) → length xs ≡ 8
+eight_entries : (xs : List ℕ) → length xs ≡ 8
     → xs ≡ slice_index xs 0 ∷ (slice_index xs 1 ∷ (slice_index xs 2 ∷ (slice_index xs 3 ∷ (slice_index xs 4 ∷ (slice_index xs 5 ∷ (slice_index xs 6 ∷ (slice_index xs 7 ∷ [])))))))
 eight_entries xs n =
     at 0 (omega arith) ∙ more 0 (at 1 (omega arith) ∙ more 1 (at 2 (omega arith) ∙ more 2 (at 3 (omega arith) ∙ more 3 (at 4 (omega arith)
@@ -40,7 +40,7 @@ after_word n (b ∷ bs) =
     regroup : (k w : ℕ) → (n * 256 + b) * k + w ≡ n * (k * 256) + ((0 * 256 + b) * k + w)
     regroup k w = rw (add-mul (n * 256) b k, mul_assoc n 256 k, mul_comm 256 k) (omega arith)
 
-pub word_cons : (b : ℕ) (bs : List ℕ) → word (b ∷ bs) ≡ b * 256 ^ length bs + word bs
+word_cons : (b : ℕ) (bs : List ℕ) → word (b ∷ bs) ≡ b * 256 ^ length bs + word bs
 word_cons b bs = ap (λ (x : ℕ). number_from_digits_after 256 x bs) (zero-add b) ∙ after_word b bs
 
 pub word_lt : (bs : List ℕ) → Bytes bs → word bs < 256 ^ length bs

@@ -20,22 +20,22 @@ module _ {A : Type 0} where
     here : {zs : List A} → Without x zs (x ∷ zs)
     there : {y : A} {zs ys : List A} → Without x zs ys → Without x (y ∷ zs) (y ∷ ys)
 
-  pub taken_out : (x : A) (ys : List A) → x ∈ ys → (zs : List A) × Without x zs ys
+  taken_out : (x : A) (ys : List A) → x ∈ ys → (zs : List A) × Without x zs ys
   taken_out x [] m = absurd m
   taken_out x (y ∷ ys) (inl e) = (ys, subst (λ (v : A). Without x ys (v ∷ ys)) e here)
   taken_out x (y ∷ ys) (inr m) = let t = taken_out x ys m in (y ∷ t.0, there t.1)
 
-  pub without_length : {x : A} {zs ys : List A} → Without x zs ys → length ys ≡ suc (length zs)
+  without_length : {x : A} {zs ys : List A} → Without x zs ys → length ys ≡ suc (length zs)
   without_length here = refl
   without_length (there w) = ap suc (without_length w)
 
-  pub ∈_without : (v : A) {x : A} {zs ys : List A} → Without x zs ys → v ∈ ys → (v ≡ x) ⊎ (v ∈ zs)
+  ∈_without : (v : A) {x : A} {zs ys : List A} → Without x zs ys → v ∈ ys → (v ≡ x) ⊎ (v ∈ zs)
   ∈_without v here m = m
   ∈_without v (there w) (inl e) = inr (inl e)
   ∈_without v (there w) (inr m) = elim (∈_without v w m) [ inl e ↦ inl e | inr k ↦ inr (inr k) ]
 
   -- the elements of xs other than x stand in what is left of ys
-  pub rest_inside : (x : A) (xs zs ys : List A) → ¬ (x ∈ xs) → ((v : A) → v ∈ (x ∷ xs) → v ∈ ys) → Without x zs ys → (v : A) → v ∈ xs → v ∈ zs
+  rest_inside : (x : A) (xs zs ys : List A) → ¬ (x ∈ xs) → ((v : A) → v ∈ (x ∷ xs) → v ∈ ys) → Without x zs ys → (v : A) → v ∈ xs → v ∈ zs
   rest_inside x xs zs ys new sub w v m =
       elim (∈_without v w (sub v (inr m))) [ inl e ↦ absurd (new (subst (λ (u : A). u ∈ xs) e m)) | inr k ↦ k ]
 

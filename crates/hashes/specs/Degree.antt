@@ -17,7 +17,7 @@ lead_low a n e = subst (λ (x : ℕ). x ≤ a) (one-mul (2 ^ n)) ((le-div_iff_mu
 pub lead_high : (a n : ℕ) → a / 2 ^ n ≡ 1 → a < 2 ^ suc n
 lead_high a n e = rw (pow-suc 2 n, mul_comm (2 ^ n) 2) ((div-lt_iff_lt-mul (pow_pos n)).0 (le_of_eq (ap suc e)))
 
-pub lead_pos : (a n : ℕ) → a / 2 ^ n ≡ 1 → 0 < a
+lead_pos : (a n : ℕ) → a / 2 ^ n ≡ 1 → 0 < a
 lead_pos a n e = lt_of_lt_of_le (pow_pos n) (lead_low a n e)
 
 below : (a m n : ℕ) → a / 2 ^ m ≡ 1 → a / 2 ^ n ≡ 1 → n ≤ m
@@ -103,7 +103,7 @@ pub degree_times : (a b : ℕ) → 0 < a → 0 < b → degree (times a b) ≡ de
 degree_times a b h k =
     degree_is (times a b) (degree a + degree b) (lead_times (degree a) a b (degree b) (degree_lead a h) (degree_lead b k))
 
-pub times_pos : (a b : ℕ) → 0 < a → 0 < b → 0 < times a b
+times_pos : (a b : ℕ) → 0 < a → 0 < b → 0 < times a b
 times_pos a b h k = lead_pos (times a b) (degree a + degree b) (lead_times (degree a) a b (degree b) (degree_lead a h) (degree_lead b k))
 
 -- there are no zero divisors

@@ -23,7 +23,7 @@ pub division_lookup : (n p r b : ℕ) → 8 ≤ n → p < 2 ^ n → division_ste
 unfolding division_step
 division_lookup n p r b l h = sym (table_step n 8 p r b l h)
 
-pub division_moved : (n p M : ℕ) (m : List ℕ) → Bytes m → fold (division_step n p) (division n p M) m ≡ division n p (number_from_digits_after 256 M m)
+division_moved : (n p M : ℕ) (m : List ℕ) → Bytes m → fold (division_step n p) (division n p M) m ≡ division n p (number_from_digits_after 256 M m)
 division_moved n p M [] h = refl
 division_moved n p M (b ∷ m) h = ap (λ (r : ℕ). fold (division_step n p) r m) one_byte ∙ division_moved n p (M * 256 + b) m h.1
   where

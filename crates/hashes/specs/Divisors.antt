@@ -17,7 +17,7 @@ use Rattle.hashes.specs.Remainder.{divided, remainder_below, remainder_multiple}
 pub divides_refl : (a : ℕ) → Divides a a
 divides_refl a = record { quotient = 1; product = times_one_l a }
 
-pub divides_zero : (d : ℕ) → Divides d 0
+divides_zero : (d : ℕ) → Divides d 0
 divides_zero d = record { quotient = 0; product = times_zero_l d }
 
 pub divides_times : {d a : ℕ} (b : ℕ) → Divides d a → Divides d (times b a)
@@ -49,7 +49,7 @@ divisor_pos {d} pos h = go (eq-zero-or-pos d)
     go (inr k) = k
 
 -- the quotient divides too
-pub cofactor : {d a : ℕ} (h : Divides d a) → Divides h.quotient a
+cofactor : {d a : ℕ} (h : Divides d a) → Divides h.quotient a
 cofactor {d} h = record { quotient = d; product = times_comm d h.quotient ∙ h.product }
 
 pub degree_quotient : {d a : ℕ} → 0 < a → (h : Divides d a) → degree h.quotient + degree d ≡ degree a
@@ -106,7 +106,7 @@ common_step {g} {b} a pos c =
         ∙ ap (bit_xor (times c.v a)) (sym (times_xor_l c.u (times c.v q) b))
 
 -- every common divisor divides it
-pub common_greatest : {d g a b : ℕ} → Common g a b → Divides d a → Divides d b → Divides d g
+common_greatest : {d g a b : ℕ} → Common g a b → Divides d a → Divides d b → Divides d g
 common_greatest {d} c h k = subst (λ (x : ℕ). Divides d x) (sym c.sum) (divides_xor (divides_times c.u h) (divides_times c.v k))
 
 gcd_within_common : (n a b : ℕ) → b ≤ n → Common (gcd_within n a b) a b

@@ -31,7 +31,7 @@ below : (x : ℕ) → x < 2 ^ 64 → x < 2 ^ degree modulus
 below x h = rw modulus_degree h
 
 -- what is left of the message after the value so far: the pending bytes, and the bytes to come
-pub evaluation_run : (a v : ℕ) (bs m : List ℕ) → length bs < 8
+evaluation_run : (a v : ℕ) (bs m : List ℕ) → length bs < 8
     → evaluation_close (absorbed evaluation_family (evaluation_state a v bs) m) ≡ times_mod modulus (evaluate modulus a v (message_words (bs ++ m))) a
 unfolding evaluate
 evaluation_run a v bs [] l =

@@ -13,7 +13,7 @@ use Rattle.std.specs.List.{AllByRecursion}
 
 -- ---- the padding
 
-pub length_padded : (m : List ℕ) → length (padded m) ≡ 8 * (length m / 8 + 1)
+length_padded : (m : List ℕ) → length (padded m) ≡ 8 * (length m / 8 + 1)
 length_padded m =
     length-append m (0x80 ∷ replicate (7 - length m % 8) 0)
     ∙ ap (λ (x : ℕ). length m + suc x) (length-replicate (7 - length m % 8) 0)
@@ -23,7 +23,7 @@ zeros : (k : ℕ) → Bytes (replicate k 0)
 zeros zero = tt
 zeros (suc k) = (omega arith, zeros k)
 
-pub bytes_padded : (m : List ℕ) → Bytes m → Bytes (padded m)
+bytes_padded : (m : List ℕ) → Bytes m → Bytes (padded m)
 bytes_padded m h = All-append (λ b. b < 256) m (0x80 ∷ replicate (7 - length m % 8) 0) h (omega arith, zeros (7 - length m % 8))
 
 -- the mark stands just after the message, and zeros after it
@@ -52,7 +52,7 @@ apart m n i l e =
 take_padded : (m : List ℕ) → take (length m) (padded m) ≡ m
 take_padded m = take-append_seam m (0x80 ∷ replicate (7 - length m % 8) 0)
 
-pub padded_injective : (m n : List ℕ) → padded m ≡ padded n → m ≡ n
+padded_injective : (m n : List ℕ) → padded m ≡ padded n → m ≡ n
 padded_injective m n e = go (dec_lt (length m) (length n)) (dec_lt (length n) (length m))
   where
     go : Dec (length m < length n) → Dec (length n < length m) → m ≡ n
@@ -69,7 +69,7 @@ unfolding words
 length_words zero bs = refl
 length_words (suc k) bs = ap suc (length_words k (drop 8 bs))
 
-pub words_lt : (k : ℕ) (bs : List ℕ) → Bytes bs → length bs ≡ 8 * k → AllByRecursion (λ w. w < 2 ^ 64) (words k bs)
+words_lt : (k : ℕ) (bs : List ℕ) → Bytes bs → length bs ≡ 8 * k → AllByRecursion (λ w. w < 2 ^ 64) (words k bs)
 unfolding words
 words_lt zero bs h l = tt
 words_lt (suc k) bs h l = (
@@ -77,7 +77,7 @@ words_lt (suc k) bs h l = (
   words_lt k (drop 8 bs) (All-drop (λ b. b < 256) 8 bs h) (length-drop 8 bs ∙ omega arith),
 )
 
-pub words_injective : (k : ℕ) (bs cs : List ℕ) → Bytes bs → Bytes cs → length bs ≡ 8 * k → length cs ≡ 8 * k → words k bs ≡ words k cs → bs ≡ cs
+words_injective : (k : ℕ) (bs cs : List ℕ) → Bytes bs → Bytes cs → length bs ≡ 8 * k → length cs ≡ 8 * k → words k bs ≡ words k cs → bs ≡ cs
 unfolding words
 words_injective zero bs cs hb hc lb lc e = nil_from_length bs lb ∙ sym (nil_from_length cs lc)
 words_injective (suc k) bs cs hb hc lb lc e =

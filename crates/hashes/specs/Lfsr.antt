@@ -33,13 +33,13 @@ module _ (n p : ℕ) where
       (digits_lt (parity_lt (bit_and s p)) h))
 
   -- every bit moves down by one place, and the top one comes from the taps
-  pub lfsr_bit : (s i : ℕ) → suc i < n → bit (lfsr n p s) i ≡ bit s (suc i)
+  lfsr_bit : (s i : ℕ) → suc i < n → bit (lfsr n p s) i ≡ bit s (suc i)
   unfolding lfsr
   lfsr_bit s i h =
       bit_half (bit_xor s (parity (bit_and s p) * 2 ^ n)) i ∙ bit_of_xor s (parity (bit_and s p) * 2 ^ n) (suc i)
       ∙ ap (bit_xor (bit s (suc i))) (bit_moved_below (parity (bit_and s p)) n (suc i) h) ∙ xor_zero_r (bit s (suc i))
 
-  pub lfsr_top : (s i : ℕ) → suc i ≡ n → s < 2 ^ n → bit (lfsr n p s) i ≡ parity (bit_and s p)
+  lfsr_top : (s i : ℕ) → suc i ≡ n → s < 2 ^ n → bit (lfsr n p s) i ≡ parity (bit_and s p)
   unfolding lfsr
   lfsr_top s i e h =
       bit_half (bit_xor s (parity (bit_and s p) * 2 ^ n)) i ∙ ap (bit (bit_xor s (parity (bit_and s p) * 2 ^ n))) e
@@ -61,14 +61,14 @@ module _ (n p : ℕ) where
           ∙ xor_zero_r (bit_and (s / 2) e)
 
   -- the last bit after j < n steps is the bit at j
-  pub iterate_bit : (j s : ℕ) → j < n → iterate (lfsr n p) j s % 2 ≡ bit s j
+  iterate_bit : (j s : ℕ) → j < n → iterate (lfsr n p) j s % 2 ≡ bit s j
   unfolding iterate
   iterate_bit zero s h = sym (bit_zero s)
   iterate_bit (suc j) s h =
       ap (λ (x : ℕ). x % 2) (sym (iterate_inner (lfsr n p) j s)) ∙ iterate_bit j (lfsr n p s) (le_of_suc-le h) ∙ lfsr_bit s j h
 
   -- after n steps it is what the taps gave first
-  pub iterate_top : (s : ℕ) → 1 ≤ n → s < 2 ^ n → iterate (lfsr n p) n s % 2 ≡ parity (bit_and s p)
+  iterate_top : (s : ℕ) → 1 ≤ n → s < 2 ^ n → iterate (lfsr n p) n s % 2 ≡ parity (bit_and s p)
   iterate_top s pos h = go n refl pos
     where
       go : (m : ℕ) → m ≡ n → 1 ≤ m → iterate (lfsr n p) n s % 2 ≡ parity (bit_and s p)
@@ -80,7 +80,7 @@ module _ (n p : ℕ) where
           ∙ lfsr_top s m f h
 
   -- the last bit of d(T) s, for d of degree below n
-  pub act_last : (k d s : ℕ) → k ≤ n → d < 2 ^ k → act (lfsr n p) d s % 2 ≡ parity (bit_and s d)
+  act_last : (k d s : ℕ) → k ≤ n → d < 2 ^ k → act (lfsr n p) d s % 2 ≡ parity (bit_and s d)
   act_last zero d s l h =
       ap (λ (x : ℕ). act (lfsr n p) x s % 2) (lt-one h) ∙ ap (λ (x : ℕ). x % 2) (act_zero_l (lfsr n p) s)
       ∙ sym (ap (λ (x : ℕ). parity (bit_and s x)) (lt-one h) ∙ ap parity (and_zero_r s) ∙ parity_zero)
@@ -93,12 +93,12 @@ module _ (n p : ℕ) where
       ∙ xor_comm (parity (bit_and (s / 2) (d / 2))) (bit_and (s % 2) (d % 2))
       ∙ sym (parity_and_step s d)
 
-  pub iterate_act : (j d s : ℕ) → iterate (lfsr n p) j (act (lfsr n p) d s) ≡ act (lfsr n p) d (iterate (lfsr n p) j s)
+  iterate_act : (j d s : ℕ) → iterate (lfsr n p) j (act (lfsr n p) d s) ≡ act (lfsr n p) d (iterate (lfsr n p) j s)
   unfolding iterate
   iterate_act zero d s = refl
   iterate_act (suc j) d s = ap (lfsr n p) (iterate_act j d s) ∙ sym (act_T (lfsr n p) lfsr_xor d (iterate (lfsr n p) j s))
 
-  pub iterate_lt : (j s : ℕ) → s < 2 ^ n → iterate (lfsr n p) j s < 2 ^ n
+  iterate_lt : (j s : ℕ) → s < 2 ^ n → iterate (lfsr n p) j s < 2 ^ n
   unfolding iterate
   iterate_lt zero s h = h
   iterate_lt (suc j) s h = lfsr_lt (iterate (lfsr n p) j s) (iterate_lt j s h)

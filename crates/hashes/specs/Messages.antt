@@ -8,7 +8,7 @@ use Rattle.hashes.specs.Degree.{lead_high, lead_unique}
 use Rattle.hashes.specs.Words.{word_lead}
 use Rattle.std.specs.Int.Digits.{number_from_digits_after}
 
-pub byte_power : (k : ℕ) → 256 ^ k ≡ 2 ^ (8 * k)
+byte_power : (k : ℕ) → 256 ^ k ≡ 2 ^ (8 * k)
 byte_power zero = refl
 byte_power (suc k) =
     pow-suc 256 k ∙ ap (λ (x : ℕ). x * 256) (byte_power k) ∙ sym (pow-add 2 (8 * k) 8) ∙ ap (λ (x : ℕ). 2 ^ x) (omega arith)
@@ -18,7 +18,7 @@ pub message_after : (m : List ℕ) → number_from_digits_after 256 1 m ≡ mess
 message_after m =
     after_word 1 m ∙ ap (λ (x : ℕ). x + word m) (one-mul (256 ^ length m) ∙ byte_power (length m))
 
-pub message_lead : (m : List ℕ) → Bytes m → message_polynomial m / 2 ^ (8 * length m) ≡ 1
+message_lead : (m : List ℕ) → Bytes m → message_polynomial m / 2 ^ (8 * length m) ≡ 1
 message_lead m h = word_lead (8 * length m) (word m) (rw (← (byte_power (length m))) (word_lt m h))
 
 pub message_lt : (L : ℕ) (m : List ℕ) → Bytes m → length m ≤ L → message_polynomial m < 2 ^ suc (8 * L)

@@ -9,7 +9,7 @@ use Rattle.hashes.specs.Lists.{◌∈◌, Distinct}
 use Rattle.hashes.specs.Counting.{∈_all, all_from_∈, distinct_inside, below, length_below, ∈_below, distinct_bounded}
 
 module _ {A B : Type 0} where
-  pub ∈_map : (f : A → B) (x : A) (xs : List A) → x ∈ xs → f x ∈ map f xs
+  ∈_map : (f : A → B) (x : A) (xs : List A) → x ∈ xs → f x ∈ map f xs
   ∈_map f x [] m = absurd m
   ∈_map f x (y ∷ ys) (inl e) = inl (ap f e)
   ∈_map f x (y ∷ ys) (inr m) = inr (∈_map f x ys m)
@@ -30,12 +30,12 @@ module _ {A B : Type 0} where
   )
 
 module _ {A : Type 0} where
-  pub ∈_append_left : (x : A) (xs ys : List A) → x ∈ xs → x ∈ (xs ++ ys)
+  ∈_append_left : (x : A) (xs ys : List A) → x ∈ xs → x ∈ (xs ++ ys)
   ∈_append_left x [] ys m = absurd m
   ∈_append_left x (y ∷ xs) ys (inl e) = inl e
   ∈_append_left x (y ∷ xs) ys (inr m) = inr (∈_append_left x xs ys m)
 
-  pub ∈_append_right : (x : A) (xs ys : List A) → x ∈ ys → x ∈ (xs ++ ys)
+  ∈_append_right : (x : A) (xs ys : List A) → x ∈ ys → x ∈ (xs ++ ys)
   ∈_append_right x [] ys m = m
   ∈_append_right x (y ∷ xs) ys m = inr (∈_append_right x xs ys m)
 
@@ -76,7 +76,7 @@ module _ {A : Type 0} (Q R : A → Type 0) where
     sizes = omega (arith, s.sizes);
   }
 
-  pub partition : (xs : List A) → Distinct xs → AllByRecursion (λ x. Q x ⊎ R x) xs → Partition Q R xs
+  partition : (xs : List A) → Distinct xs → AllByRecursion (λ x. Q x ⊎ R x) xs → Partition Q R xs
   partition [] d h = record {
     qs = [];
     rs = [];
@@ -90,7 +90,7 @@ module _ {A : Type 0} (Q R : A → Type 0) where
   }
   partition (x ∷ xs) d h = partition_more x xs d.0 h.0 (partition xs d.1 h.1)
 
-pub decide_∈ : (x : ℕ) (xs : List ℕ) → Dec (x ∈ xs)
+decide_∈ : (x : ℕ) (xs : List ℕ) → Dec (x ∈ xs)
 decide_∈ x [] = no (λ m. m)
 decide_∈ x (y ∷ ys) = step (ℕ_discrete x y) (decide_∈ x ys)
   where
@@ -106,7 +106,7 @@ pub record WithoutRepeats (xs : List ℕ) : Type 0 where
   pub from : (v : ℕ) → v ∈ list → v ∈ xs
   pub has : (v : ℕ) → v ∈ xs → v ∈ list
 
-pub without_repeats : (xs : List ℕ) → WithoutRepeats xs
+without_repeats : (xs : List ℕ) → WithoutRepeats xs
 without_repeats [] = record { list = []; distinct = tt; from = λ v m. m; has = λ v m. m }
 without_repeats (x ∷ xs) = step (without_repeats xs) (decide_∈ x (without_repeats xs).list)
   where

@@ -66,7 +66,7 @@ module _ (p : ℕ) (irr : Irreducible p) where
         ∙ frobenius_zero p pos deg k,
   )
 
-  pub conjugates : (m : ℕ) × (1 ≤ m) × (m ≤ degree p) × (frobenius p m (remainder 2 p) ≡ remainder 2 p)
+  conjugates : (m : ℕ) × (1 ≤ m) × (m ≤ degree p) × (frobenius p m (remainder 2 p) ≡ remainder 2 p)
   unfolding conjugate x
   conjugates = go (apart_or conjugate (suc (degree p)))
     where

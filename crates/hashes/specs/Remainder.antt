@@ -13,7 +13,7 @@ use Rattle.hashes.specs.Times.{times_zero_l, times_dbl_l, times_xor_l, times_com
 use Rattle.hashes.specs.Degree.{lead_low, xor_cancels, lead_times, degree_lead}
 
 -- a polynomial with p for a factor is zero, or its degree is p's at least
-pub multiple_low : (n p q : ℕ) → p / 2 ^ n ≡ 1 → times q p < 2 ^ n → q ≡ 0
+multiple_low : (n p q : ℕ) → p / 2 ^ n ≡ 1 → times q p < 2 ^ n → q ≡ 0
 multiple_low n p q e h = go (eq-zero-or-pos q)
   where
     go : (q ≡ 0) ⊎ (0 < q) → q ≡ 0
@@ -78,7 +78,7 @@ module _ (n p : ℕ) where
         go (inl z) = rw (z, zero-mul p, xor_zero_r s) (low z)
         go (inr o) = rw (o, one-mul p) (xor_cancels s p n o e)
 
-    pub remainder_at_lt : (a : ℕ) → remainder_at n p a < 2 ^ n
+    remainder_at_lt : (a : ℕ) → remainder_at n p a < 2 ^ n
     remainder_at_lt =
         bin_ind (λ (a : ℕ). remainder_at n p a < 2 ^ n) (rw remainder_at_zero (pow_pos n))
         (λ a ih. rw (remainder_at_step a) (reduce_lt _ (digit_low (remainder_at n p (a / 2)) (a % 2) ih (mod-lt a (zero-lt-suc 1)))))
@@ -90,7 +90,7 @@ module _ (n p : ℕ) where
         sym (xor_cancel (s / 2 ^ n * p) s)
         ∙ ap₂ bit_xor (sym (times_digit (s / 2 ^ n) p (top_digit s h))) (xor_comm (s / 2 ^ n * p) s)
 
-    pub divided_at : (a : ℕ) → (q : ℕ) × (a ≡ bit_xor (times q p) (remainder_at n p a))
+    divided_at : (a : ℕ) → (q : ℕ) × (a ≡ bit_xor (times q p) (remainder_at n p a))
     divided_at =
         bin_ind (λ (a : ℕ). (q : ℕ) × (a ≡ bit_xor (times q p) (remainder_at n p a)))
         (0, ap₂ bit_xor (sym (times_zero_l p)) (sym remainder_at_zero))
@@ -139,7 +139,7 @@ module _ (p : ℕ) (pos : 0 < p) where
   remainder_below a = lt_of_lt_of_le (remainder_lt a) (lead_low p (degree p) (degree_lead p pos))
 
   -- a polynomial of lower degree that differs from a by a multiple of p is a's remainder
-  pub remainder_is : (a q r : ℕ) → r < 2 ^ degree p → a ≡ bit_xor (times q p) r → remainder a p ≡ r
+  remainder_is : (a q r : ℕ) → r < 2 ^ degree p → a ≡ bit_xor (times q p) r → remainder a p ≡ r
   remainder_is a q r h f =
       (division_unique (degree p) p (divided a).0 (remainder a p) q r (degree_lead p pos) (remainder_lt a) h (sym (divided a).1 ∙ f)).1
 

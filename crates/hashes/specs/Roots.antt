@@ -25,7 +25,7 @@ module _ (p : ℕ) (irr : Irreducible p) where
   pos : 0 < p
   pos = irreducible_pos irr
 
-  pub values_lt : {n : ℕ} {f : ℕ → ℕ} → Polynomial p n f → (y : ℕ) → f y < 2 ^ degree p
+  values_lt : {n : ℕ} {f : ℕ → ℕ} → Polynomial p n f → (y : ℕ) → f y < 2 ^ degree p
   values_lt (constant c h k e) y = rw (e y) k
   values_lt (next {f = f} c h k e) y = rw (e y) (xor_lt (degree p) (times_mod p (f y) y) c (mod_lt p pos (f y) y) k)
 

@@ -18,12 +18,12 @@ use Rattle.hashes.specs.ToeplitzMessage.{bit_polynomial, toeplitz_is, difference
 
 -- ---- a polynomial acts on the words
 
-pub toeplitz_difference : (n p s : ℕ) (a b : List ℕ) → bit_xor (toeplitz n p s a) (toeplitz n p s b) ≡ act (lfsr n p) (bit_xor (bit_polynomial a) (bit_polynomial b)) s
+toeplitz_difference : (n p s : ℕ) (a b : List ℕ) → bit_xor (toeplitz n p s a) (toeplitz n p s b) ≡ act (lfsr n p) (bit_xor (bit_polynomial a) (bit_polynomial b)) s
 toeplitz_difference n p s a b = ap₂ bit_xor (toeplitz_is n p s a) (toeplitz_is n p s b) ∙ sym (act_xor (lfsr n p) (lfsr_xor n p) (bit_polynomial a) (bit_polynomial b) s)
 
 module _ (n p : ℕ) (pos : 1 ≤ n) (p_lt : p < 2 ^ n) where
   -- a multiple of x^n + p annuls every word
-  pub act_multiple : (d s : ℕ) → Divides (2 ^ n + p) d → s < 2 ^ n → act (lfsr n p) d s ≡ 0
+  act_multiple : (d s : ℕ) → Divides (2 ^ n + p) d → s < 2 ^ n → act (lfsr n p) d s ≡ 0
   act_multiple d s h l =
       ap (λ (x : ℕ). act (lfsr n p) x s) (sym h.product)
       ∙ act_times (lfsr n p) (lfsr_xor n p) h.quotient (2 ^ n + p) s
@@ -51,7 +51,7 @@ module _ (n p : ℕ) (pos : 1 ≤ n) (p_lt : p < 2 ^ n) where
     bezout : 1 ≡ bit_xor (times (gcd_common d (2 ^ n + p)).u d) (times (gcd_common d (2 ^ n + p)).v (2 ^ n + p))
     bezout = sym coprime ∙ (gcd_common d (2 ^ n + p)).sum
 
-    pub act_injective : (s t : ℕ) → s < 2 ^ n → t < 2 ^ n → act (lfsr n p) d s ≡ act (lfsr n p) d t → s ≡ t
+    act_injective : (s t : ℕ) → s < 2 ^ n → t < 2 ^ n → act (lfsr n p) d s ≡ act (lfsr n p) d t → s ≡ t
     act_injective s t h k e =
         let c = gcd_common d (2 ^ n + p) in
         sym (inverse d c.u c.v s bezout h) ∙ ap (act (lfsr n p) c.u) e ∙ inverse d c.u c.v t bezout k
@@ -74,7 +74,7 @@ pub record DividingTaps (n d p : ℕ) : Type 0 where
   pub irreducible : Irreducible (2 ^ n + p)
   pub divides : Divides (2 ^ n + p) d
 
-pub few_dividing_taps : (n m d : ℕ) → 1 ≤ n → 0 < d → degree d ≤ m → (ps : List ℕ) → Distinct ps → AllByRecursion (DividingTaps n d) ps → length ps ≤ m / n
+few_dividing_taps : (n m d : ℕ) → 1 ≤ n → 0 < d → degree d ≤ m → (ps : List ℕ) → Distinct ps → AllByRecursion (DividingTaps n d) ps → length ps ≤ m / n
 few_dividing_taps n m d pos d_pos d_le ps dist bad =
     (le-div_iff_mul-le pos).1 (le_trans (irreducible_divisors (λ p. 2 ^ n + p) (λ j k e. omega arith) n d d_pos ps dist each) d_le)
   where

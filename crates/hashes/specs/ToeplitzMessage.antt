@@ -25,7 +25,7 @@ bit_polynomial m = from_bits (message_bits m)
 
 -- ---- lists of bits
 
-pub bits_digits : (k a : ℕ) → AllByRecursion (λ d. d < 2) (bits k a)
+bits_digits : (k a : ℕ) → AllByRecursion (λ d. d < 2) (bits k a)
 unfolding bits
 bits_digits zero a = tt
 bits_digits (suc k) a = (bit_lt a k, bits_digits k a)
@@ -39,21 +39,21 @@ all_append : (xs ys : List ℕ) → AllByRecursion (λ d. d < 2) xs → AllByRec
 all_append [] ys h k = k
 all_append (x ∷ xs) ys h k = (h.0, all_append xs ys h.1 k)
 
-pub byte_digits : (m : List ℕ) → AllByRecursion (λ d. d < 2) (byte_bits m)
+byte_digits : (m : List ℕ) → AllByRecursion (λ d. d < 2) (byte_bits m)
 unfolding byte_bits
 byte_digits [] = tt
 byte_digits (b ∷ m) = all_append (bits 8 b) (byte_bits m) (bits_digits 8 b) (byte_digits m)
 
-pub message_digits : (m : List ℕ) → AllByRecursion (λ d. d < 2) (message_bits m)
+message_digits : (m : List ℕ) → AllByRecursion (λ d. d < 2) (message_bits m)
 unfolding message_bits
 message_digits m = all_append (byte_bits m) (1 ∷ []) (byte_digits m) (suc-le-suc (suc-le-suc zero-le), tt)
 
-pub from_bits_lt : (ds : List ℕ) → AllByRecursion (λ d. d < 2) ds → from_bits ds < 2 ^ length ds
+from_bits_lt : (ds : List ℕ) → AllByRecursion (λ d. d < 2) ds → from_bits ds < 2 ^ length ds
 unfolding from_bits
 from_bits_lt [] h = suc-le-suc zero-le
 from_bits_lt (d ∷ ds) h = rw (pow-suc 2 (length ds)) (digits_lt (from_bits_lt ds h.1) h.0)
 
-pub from_bits_append : (xs ys : List ℕ) → from_bits (xs ++ ys) ≡ from_bits ys * 2 ^ length xs + from_bits xs
+from_bits_append : (xs ys : List ℕ) → from_bits (xs ++ ys) ≡ from_bits ys * 2 ^ length xs + from_bits xs
 unfolding from_bits
 from_bits_append [] ys = sym (add-zero (from_bits ys * 1) ∙ mul-one (from_bits ys))
 from_bits_append (x ∷ xs) ys =
@@ -65,7 +65,7 @@ from_bits_append (x ∷ xs) ys =
     regroup a b c = rw (← mul_assoc a b 2) (omega arith)
 
 -- a number is determined by its lowest bits
-pub bits_injective : (k a b : ℕ) → from_bits (bits k a) ≡ from_bits (bits k b) → a % 2 ^ k ≡ b % 2 ^ k
+bits_injective : (k a b : ℕ) → from_bits (bits k a) ≡ from_bits (bits k b) → a % 2 ^ k ≡ b % 2 ^ k
 unfolding bits from_bits bit
 bits_injective zero a b e = mod-one a ∙ sym (mod-one b)
 bits_injective (suc k) a b e =
@@ -83,20 +83,20 @@ bits_injective (suc k) a b e =
 
 -- ---- the polynomial
 
-pub polynomial_nil : bit_polynomial [] ≡ 1
+polynomial_nil : bit_polynomial [] ≡ 1
 unfolding bit_polynomial message_bits byte_bits from_bits
 polynomial_nil = refl
 
-pub polynomial_cons : (b : ℕ) (m : List ℕ) → bit_polynomial (b ∷ m) ≡ bit_polynomial m * 2 ^ 8 + from_bits (bits 8 b)
+polynomial_cons : (b : ℕ) (m : List ℕ) → bit_polynomial (b ∷ m) ≡ bit_polynomial m * 2 ^ 8 + from_bits (bits 8 b)
 unfolding bit_polynomial message_bits byte_bits
 polynomial_cons b m =
     ap from_bits (append_assoc (bits 8 b) (byte_bits m) (1 ∷ [])) ∙ from_bits_append (bits 8 b) (message_bits m) ∙ ap (λ (x : ℕ). from_bits (message_bits m) * 2 ^ x + from_bits (bits 8 b)) (length_bits 8 b)
 
-pub byte_lt : (b : ℕ) → from_bits (bits 8 b) < 2 ^ 8
+byte_lt : (b : ℕ) → from_bits (bits 8 b) < 2 ^ 8
 byte_lt b = subst (λ (x : ℕ). from_bits (bits 8 b) < 2 ^ x) (length_bits 8 b) (from_bits_lt (bits 8 b) (bits_digits 8 b))
 
 -- the leading term is x^(8L)
-pub polynomial_lead : (m : List ℕ) → bit_polynomial m / 2 ^ (8 * length m) ≡ 1
+polynomial_lead : (m : List ℕ) → bit_polynomial m / 2 ^ (8 * length m) ≡ 1
 polynomial_lead [] = ap (λ (x : ℕ). x / 2 ^ (8 * 0)) polynomial_nil
 polynomial_lead (b ∷ m) =
     ap₂ (λ (x y : ℕ). x / 2 ^ y) (polynomial_cons b m) more
@@ -107,11 +107,11 @@ polynomial_lead (b ∷ m) =
     more : 8 * suc (length m) ≡ 8 + 8 * length m
     more = omega arith
 
-pub polynomial_pos : (m : List ℕ) → 0 < bit_polynomial m
+polynomial_pos : (m : List ℕ) → 0 < bit_polynomial m
 polynomial_pos m = lt_of_lt_of_le (pow_pos (8 * length m)) (lead_low (bit_polynomial m) (8 * length m) (polynomial_lead m))
 
 -- different messages have different polynomials
-pub polynomial_injective : (a b : List ℕ) → Bytes a → Bytes b → bit_polynomial a ≡ bit_polynomial b → a ≡ b
+polynomial_injective : (a b : List ℕ) → Bytes a → Bytes b → bit_polynomial a ≡ bit_polynomial b → a ≡ b
 polynomial_injective [] [] h k e = refl
 polynomial_injective [] (y ∷ b) h k e =
     absurd (never (bit_polynomial b) (from_bits (bits 8 y)) (polynomial_pos b) (sym polynomial_nil ∙ e ∙ polynomial_cons y b))
@@ -130,7 +130,7 @@ polynomial_injective (x ∷ a) (y ∷ b) h k e =
     parts : (x y c d : ℕ) → c < 256 → d < 256 → x * 256 + c ≡ y * 256 + d → (x ≡ y) × (c ≡ d)
     parts x y c d h k e = omega arith
 
-pub degree_below : (a k : ℕ) → 0 < a → a < 2 ^ suc k → degree a ≤ k
+degree_below : (a k : ℕ) → 0 < a → a < 2 ^ suc k → degree a ≤ k
 degree_below a k pos h = go (dec_le (suc k) (degree a))
   where
     go : Dec (suc k ≤ degree a) → degree a ≤ k

@@ -10,7 +10,7 @@ use Rattle.hashes.specs.Lfsr.{state_add}
 use Rattle.hashes.specs.ToeplitzMessage.{length_bits}
 
 -- the register's next word, put together from its parts
-pub lfsr_word : (m p s : ℕ) → s < 2 ^ suc m → lfsr (suc m) p s ≡ bit_or (s / 2) (parity (bit_and s p) * 2 ^ m)
+lfsr_word : (m p s : ℕ) → s < 2 ^ suc m → lfsr (suc m) p s ≡ bit_or (s / 2) (parity (bit_and s p) * 2 ^ m)
 unfolding lfsr
 lfsr_word m p s h =
     half_xor s (parity (bit_and s p) * 2 ^ suc m) ∙ ap (bit_xor (s / 2)) (shifted_half (parity (bit_and s p)) m)
@@ -28,23 +28,23 @@ step_word m p s h = lfsr_word m p s h ∙ ap (bit_or (s / 2)) (sym (mod-eq_of_lt
 
 -- ---- the chosen states, from a later one on
 
-pub chosen_shift : (n p s j i : ℕ) (ds : List ℕ) → chosen n p s (j + i) ds ≡ chosen n p (state n p s j) i ds
+chosen_shift : (n p s j i : ℕ) (ds : List ℕ) → chosen n p s (j + i) ds ≡ chosen n p (state n p s j) i ds
 unfolding chosen
 chosen_shift n p s j i [] = refl
 chosen_shift n p s j i (d ∷ ds) =
     ap₂ (λ (x y : ℕ). bit_xor (d * x) y) (state_add n p s j i) (ap (λ (x : ℕ). chosen n p s x ds) (sym (add-suc j i)) ∙ chosen_shift n p s j (suc i) ds)
 
-pub chosen_from : (n p s j : ℕ) (ds : List ℕ) → chosen n p s j ds ≡ chosen n p (state n p s j) 0 ds
+chosen_from : (n p s j : ℕ) (ds : List ℕ) → chosen n p s j ds ≡ chosen n p (state n p s j) 0 ds
 chosen_from n p s j ds = ap (λ (x : ℕ). chosen n p s x ds) (sym (add-zero j)) ∙ chosen_shift n p s j 0 ds
 
-pub chosen_append : (n p s j : ℕ) (xs ys : List ℕ) → chosen n p s j (xs ++ ys) ≡ bit_xor (chosen n p s j xs) (chosen n p s (j + length xs) ys)
+chosen_append : (n p s j : ℕ) (xs ys : List ℕ) → chosen n p s j (xs ++ ys) ≡ bit_xor (chosen n p s j xs) (chosen n p s (j + length xs) ys)
 unfolding chosen
 chosen_append n p s j [] ys = ap (λ (x : ℕ). chosen n p s x ys) (sym (add-zero j))
 chosen_append n p s j (x ∷ xs) ys =
     ap (bit_xor (x * state n p s j)) (chosen_append n p s (suc j) xs ys ∙ ap (λ (k : ℕ). bit_xor (chosen n p s (suc j) xs) (chosen n p s k ys)) (suc-add j (length xs) ∙ sym (add-suc j (length xs))))
     ∙ sym (xor_assoc (x * state n p s j) (chosen n p s (suc j) xs) (chosen n p s (j + suc (length xs)) ys))
 
-pub length_byte_bits : (m : List ℕ) → length (byte_bits m) ≡ 8 * length m
+length_byte_bits : (m : List ℕ) → length (byte_bits m) ≡ 8 * length m
 unfolding byte_bits
 length_byte_bits [] = refl
 length_byte_bits (b ∷ m) = length-append (bits 8 b) (byte_bits m) ∙ ap₂ ◌+◌ (length_bits 8 b) (length_byte_bits m) ∙ omega arith
@@ -71,7 +71,7 @@ chosen_one : (n p w : ℕ) (d : ℕ) (ds : List ℕ) → chosen n p w 0 (d ∷ d
 unfolding chosen state
 chosen_one n p w d ds = ap (bit_xor (d * w)) (chosen_from n p w 1 ds)
 
-pub run_again : (n p w w' a a' b i X Y : ℕ) → 0 < i → w' ≡ lfsr n p w → a' ≡ bit_xor a (bit b (i - 1) * w)
+run_again : (n p w w' a a' b i X Y : ℕ) → 0 < i → w' ≡ lfsr n p w → a' ≡ bit_xor a (bit b (i - 1) * w)
     → (state n p w i ≡ X) × (bit_xor a (chosen n p w 0 (bits i b)) ≡ Y)
     → (state n p w' (i - 1) ≡ X) × (bit_xor a' (chosen n p w' 0 (bits (i - 1) b)) ≡ Y)
 unfolding bits
@@ -88,7 +88,7 @@ run_again n p w w' a a' b (suc i) X Y pos e f h = rw (sub-one (suc i)) (states, 
         ∙ ap (bit_xor a) (sym (chosen_one n p w (bit b i) (bits i b)))
         ∙ h.1
 
-pub run_done : (n p w a b i X Y : ℕ) → i ≤ 0 → (state n p w i ≡ X) × (bit_xor a (chosen n p w 0 (bits i b)) ≡ Y) → (w ≡ X) × (a ≡ Y)
+run_done : (n p w a b i X Y : ℕ) → i ≤ 0 → (state n p w i ≡ X) × (bit_xor a (chosen n p w 0 (bits i b)) ≡ Y) → (w ≡ X) × (a ≡ Y)
 unfolding state chosen bits
 run_done n p w a b zero X Y l h = (h.0, sym (xor_zero_r a) ∙ h.1)
 run_done n p w a b (suc i) X Y l h = absurd (not-suc-le-zero l)

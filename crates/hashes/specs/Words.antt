@@ -31,7 +31,7 @@ pub word_pos : (n w : ℕ) → 0 < 2 ^ n + w
 word_pos n w = let k : 0 < 2 ^ n = pow_pos n in omega arith
 
 -- one reduction by words: the top digit falls out, and tells whether w is added
-pub reduce_word : (n w s : ℕ) → w < 2 ^ n → s < 2 ^ suc n → reduce n (2 ^ n + w) s ≡ bit_xor (s % 2 ^ n) (s / 2 ^ n * w)
+reduce_word : (n w s : ℕ) → w < 2 ^ n → s < 2 ^ suc n → reduce n (2 ^ n + w) s ≡ bit_xor (s % 2 ^ n) (s / 2 ^ n * w)
 unfolding reduce
 reduce_word n w s k h = go (digit_cases top)
   where
@@ -58,7 +58,7 @@ module _ (p : ℕ) (pos : 0 < p) where
       ∙ ap₂ (λ (x y : ℕ). reduce (degree p) p (remainder_at (degree p) p x * 2 + y)) (digits_div a h) (digits_mod a h)
 
   -- x^k times a
-  pub remainder_shl : (a k : ℕ) → remainder (remainder a p * 2 ^ k) p ≡ remainder (a * 2 ^ k) p
+  remainder_shl : (a k : ℕ) → remainder (remainder a p * 2 ^ k) p ≡ remainder (a * 2 ^ k) p
   remainder_shl a k =
       ap (λ (x : ℕ). remainder x p) (sym (times_shl (remainder a p) k)) ∙ remainder_times_l p pos a (2 ^ k)
       ∙ ap (λ (x : ℕ). remainder x p) (times_shl a k)
@@ -75,7 +75,7 @@ module _ (p : ℕ) (pos : 0 < p) where
       ∙ sym (remainder_xor p pos (remainder (m * 2 ^ n) p * 2 ^ k) (b * 2 ^ n))
 
   -- the step by a table: the k top digits of the remainder and the k new ones give the entry, the other j digits are shifted
-  pub remainder_table : (n j k r b : ℕ) → j + k ≡ n → degree p ≡ n
+  remainder_table : (n j k r b : ℕ) → j + k ≡ n → degree p ≡ n
       → remainder (bit_xor (r * 2 ^ k) (b * 2 ^ n)) p ≡ bit_xor (r % 2 ^ j * 2 ^ k) (remainder (bit_xor (r / 2 ^ j) b * 2 ^ n) p)
   remainder_table n j k r b whole deg =
       ap (λ (x : ℕ). remainder x p)
