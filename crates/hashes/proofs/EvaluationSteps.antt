@@ -64,7 +64,8 @@ row_at a j b row p e d h =
 abbrev pub MultiplesRows : ℕ → ℕ → List (List ℕ) → Type 0
 MultiplesRows a n rows = (i : ℕ) → i < n → MultiplesRow a i (get_or rows i [])
 
-pub multiples_rows_more : (a i : ℕ) (rows : List (List ℕ)) (row : List ℕ) → i < length rows → MultiplesRow a i row → MultiplesRows a i rows → MultiplesRows a (i + 1) (set rows i row)
+pub multiples_rows_more : (a i : ℕ) (rows : List (List ℕ)) (row : List ℕ) → i < length rows
+    → MultiplesRow a i row → MultiplesRows a i rows → MultiplesRows a (i + 1) (set rows i row)
 multiples_rows_more a i rows row within filled before =
     below_more _ _
     (λ k l d h. let ne : k ≢ i = omega arith in rw get_or-set_other (before k l d h))
@@ -109,7 +110,8 @@ pub bytes_held : (a v : ℕ) (bs xs : List ℕ) → length bs + length xs < 8
     → absorbed evaluation_family (evaluation_state a v bs) xs ≡ evaluation_state a v (bs ++ xs)
 bytes_held a v bs [] h = ap (evaluation_state a v) (sym (append-nil bs))
 bytes_held a v bs (b ∷ xs) h =
-    ap (λ (c : Bool). absorbed evaluation_family (cond c (evaluation_state a (with_word a v (word (bs ++ (b ∷ [])))) []) (evaluation_state a v (bs ++ (b ∷ [])))) xs) (ne_eqb (length bs) 7 (omega arith))
+    ap (λ (c : Bool). absorbed evaluation_family (cond c (evaluation_state a (with_word a v (word (bs ++ (b ∷ [])))) []) (evaluation_state a v (bs ++ (b ∷ [])))) xs)
+    (ne_eqb (length bs) 7 (omega arith))
     ∙ bytes_held a v (bs ++ (b ∷ [])) xs (omega (arith, length-append bs (b ∷ [])))
     ∙ ap (evaluation_state a v) (append_assoc bs (b ∷ []) xs)
 
@@ -126,7 +128,8 @@ word_taken a v bs (b ∷ xs) h l = go (λ bs h l. word_taken a v bs xs h l) (ℕ
         → evaluation_next (evaluation_state a v bs) b ≡ cond c (evaluation_state a (with_word a v (word (bs ++ (b ∷ [])))) []) (evaluation_state a v (bs ++ (b ∷ [])))
     next_is c e = ap (λ (c : Bool). cond c (evaluation_state a (with_word a v (word (bs ++ (b ∷ [])))) []) (evaluation_state a v (bs ++ (b ∷ [])))) e
 
-    last : (ys : List ℕ) → length ys ≡ 0 → absorbed evaluation_family (evaluation_state a (with_word a v (word (bs ++ (b ∷ [])))) []) ys ≡ evaluation_state a (with_word a v (word (bs ++ (b ∷ ys)))) []
+    last : (ys : List ℕ) → length ys ≡ 0
+        → absorbed evaluation_family (evaluation_state a (with_word a v (word (bs ++ (b ∷ [])))) []) ys ≡ evaluation_state a (with_word a v (word (bs ++ (b ∷ ys)))) []
     last [] e = refl
     last (y ∷ ys) e = absurd (omega arith)
 
@@ -166,7 +169,8 @@ half_byte_out a h =
     ∙ ap (λ (x : ℕ). remainder x modulus) (times_low a)
     ∙ remainder_small modulus pos (low_times a)
     (small (low_times a)
-    (xor_lt 64 (bit_xor (bit_xor a (a * 2)) (a * 8)) (a * 16) (xor_lt 64 (bit_xor a (a * 2)) (a * 8) (xor_lt 64 a (a * 2) (omega arith) (omega arith)) (omega arith)) (omega arith)))
+    (xor_lt 64 (bit_xor (bit_xor a (a * 2)) (a * 8)) (a * 16)
+    (xor_lt 64 (bit_xor a (a * 2)) (a * 8) (xor_lt 64 a (a * 2) (omega arith) (omega arith)) (omega arith)) (omega arith)))
 
 half_byte_times : (a : ℕ) → a < 2 ^ 64 → times_mod modulus 16 a ≡ bit_xor (a * 16 % 2 ^ 64) (low_times (a / 2 ^ 60))
 half_byte_times a h = half_byte_up 64 0x1B a (omega arith) (omega arith) ∙ ap (bit_xor (a * 16 % 2 ^ 64)) (half_byte_out (a / 2 ^ 60) (omega arith))
@@ -190,7 +194,8 @@ all_folded = (refl, (refl, (refl, (refl, (refl, (refl, (refl, (refl, (refl, (ref
 
 -- as the machine works it out
 pub half_byte_folded : (a : ℕ) → a < 2 ^ 64
-    → bit_xor (a * 16 % 2 ^ 64) (get_or (0x00 ∷ (0x1B ∷ (0x36 ∷ (0x2D ∷ (0x6C ∷ (0x77 ∷ (0x5A ∷ (0x41 ∷ (0xD8 ∷ (0xC3 ∷ (0xEE ∷ (0xF5 ∷ (0xB4 ∷ (0xAF ∷ (0x82 ∷ (0x99 ∷ [])))))))))))))))) (a / 2 ^ 60) 0)
+    → bit_xor (a * 16 % 2 ^ 64)
+    (get_or (0x00 ∷ (0x1B ∷ (0x36 ∷ (0x2D ∷ (0x6C ∷ (0x77 ∷ (0x5A ∷ (0x41 ∷ (0xD8 ∷ (0xC3 ∷ (0xEE ∷ (0xF5 ∷ (0xB4 ∷ (0xAF ∷ (0x82 ∷ (0x99 ∷ [])))))))))))))))) (a / 2 ^ 60) 0)
     ≡ times_mod modulus 16 a
 unfolding folded
 half_byte_folded a h = ap (bit_xor (a * 16 % 2 ^ 64)) (folded_at 0 (a / 2 ^ 60) folded all_folded (omega arith) ∙ ap low_times (zero-add (a / 2 ^ 60))) ∙ sym (half_byte_times a h)

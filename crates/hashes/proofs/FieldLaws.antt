@@ -89,7 +89,8 @@ module _ (f : ℕ) (irr : Irreducible f) where
       horner : (y : ℕ) → evaluate f y c cs ≡ powers_sum f y (c ∷ cs)
       horner y = unfold powers_sum in evaluate_sum f pos y c cs fit.0 fit.1
 
-      go : ((AllByRecursion (λ c. c ≡ 0) cs → ⊥) → AllByRecursion (λ y. (y < 2 ^ degree f) × (powers_sum f y cs ≡ 0)) ys → length ys < length cs) → Dec (c ≡ 0) → length ys < suc (length cs)
+      go : ((AllByRecursion (λ c. c ≡ 0) cs → ⊥) → AllByRecursion (λ y. (y < 2 ^ degree f) × (powers_sum f y cs ≡ 0)) ys → length ys < length cs)
+          → Dec (c ≡ 0) → length ys < suc (length cs)
       go rest (yes e) =
           le_step (rest (λ zeros. some (e, zeros))
           (all_from_∈ (λ y. (y < 2 ^ degree f) × (powers_sum f y cs ≡ 0)) ys (λ y m. ((root y m).0, sym (skip e y) ∙ (root y m).1))))

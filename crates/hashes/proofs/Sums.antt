@@ -100,5 +100,5 @@ half_byte_step f rows v j s r add filled h left e =
     half_byte_more f add v j s _ e (filled.entry j (r % 16) h (mod-lt r (zero-lt-suc 15)) ∙ ap (λ (r : ℕ). f (r % 16 * 2 ^ (4 * j))) left)
 
 -- what is left of v above the half bytes up to place j
-pub half_bytes_left : (v j : ℕ) → v / 2 ^ (4 * j) / 16 ≡ v / 2 ^ (4 * (j + 1))
-half_bytes_left v j = higher_digits 4 v j
+pub higher_half_bytes : (v j : ℕ) → v / 2 ^ (4 * j) / 16 ≡ v / 2 ^ (4 * (j + 1))
+higher_half_bytes v j = higher_digits 4 v j

@@ -25,7 +25,8 @@ eight_entries xs n =
 -- eight bytes, highest first, as std sums them
 pub word8 :
     (xs : List ℕ) → length xs ≡ 8
-    → slice_index xs 0 * 72057594037927936 + slice_index xs 1 * 281474976710656 + slice_index xs 2 * 1099511627776 + slice_index xs 3 * 4294967296 + slice_index xs 4 * 16777216 + slice_index xs 5 * 65536 + slice_index xs 6 * 256 + slice_index xs 7
+    → slice_index xs 0 * 72057594037927936 + slice_index xs 1 * 281474976710656 + slice_index xs 2 * 1099511627776
+    + slice_index xs 3 * 4294967296 + slice_index xs 4 * 16777216 + slice_index xs 5 * 65536 + slice_index xs 6 * 256 + slice_index xs 7
     ≡ word xs
 word8 xs n = let w = ap word (eight_entries xs n) in omega arith
 

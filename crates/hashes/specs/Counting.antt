@@ -1,7 +1,7 @@
 -- Counting with lists without repeats: the pigeonhole principle, over lists and below a bound.
 use Rattle.std.specs.Prelude.{◌≡◌, ℕ, zero, suc, ◌<◌, ◌≤◌, ◌⊎◌, List, [], ◌∷◌, length, refl}
 use Rattle.std.proofs.Common.{sym, ap, subst, inl, inr, zero-le, suc-le-suc}
-use native.Mathlib.Nat.{le_trans, le_of_eq, lt_irrefl, le_step, le-suc_iff}
+use native.Mathlib.Nat.{le_trans, le_of_eq, le-suc_iff}
 use Rattle.std.specs.List.{AllByRecursion}
 use Rattle.hashes.specs.Lists.{◌∈◌, Distinct}
 

@@ -75,7 +75,8 @@ module _ (p : ℕ) (irr : Irreducible p) where
   equal_or f (c ∷ cs) (d ∷ ds) l hc hd = go (ℕ_discrete c d) (equal_or (λ y. bit_xor (times_mod p (f y) y) c) cs ds (suc_inj l) hc.1 hd.1)
     where
       go : Dec (c ≡ d)
-          → (cs ≡ ds) ⊎ ((k : ℕ) × (k < length cs) × Polynomial p k (λ y. bit_xor (evaluate p y (bit_xor (times_mod p (f y) y) c) cs) (evaluate p y (bit_xor (times_mod p (f y) y) c) ds)))
+          → (cs ≡ ds) ⊎ ((k : ℕ) × (k < length cs)
+          × Polynomial p k (λ y. bit_xor (evaluate p y (bit_xor (times_mod p (f y) y) c) cs) (evaluate p y (bit_xor (times_mod p (f y) y) c) ds)))
           → (c ∷ cs ≡ d ∷ ds) ⊎ ((k : ℕ) × (k < suc (length cs)) × Polynomial p k (λ y. bit_xor (evaluate p y (f y) (c ∷ cs)) (evaluate p y (f y) (d ∷ ds))))
       go (yes e) (inl t) = inl (ap₂ {C = List ℕ} ◌∷◌ e t)
       go (yes e) (inr (k, lt, h)) =

@@ -85,7 +85,8 @@ few_dividing_taps n m d pos d_pos d_le ps dist bad =
 pub toeplitz_law : (n : ℕ) → 1 ≤ n → (a b : List ℕ) (L w : ℕ) (ks : List (ℕ × ℕ)) → Bytes a → Bytes b → a ≢ b → length a ≤ L → length b ≤ L
     → Distinct ks → AllByRecursion (λ k. PairKey n k) ks → AllByRecursion (λ k. Differ n k.0 k.1 a b w) ks → length ks ≤ 2 ^ n * (8 * L / n + 1)
 toeplitz_law n pos a b L w ks a_bytes b_bytes ne a_le b_le dist keys same =
-    pairs_bound (2 ^ n) (8 * L / n) (DividingTaps n d) (few_dividing_taps n (8 * L) d pos (difference_pos a b L a_bytes b_bytes ne a_le b_le) (difference_degree a b L a_bytes b_bytes ne a_le b_le))
+    pairs_bound (2 ^ n) (8 * L / n) (DividingTaps n d)
+    (few_dividing_taps n (8 * L) d pos (difference_pos a b L a_bytes b_bytes ne a_le b_le) (difference_degree a b L a_bytes b_bytes ne a_le b_le))
     ks dist
     (all_from_∈ (λ e. (e.0 < 2 ^ n) × (e.1 < 2 ^ n)) ks (λ e m. ((key e m).taps_word, (key e m).state_word)))
     (all_from_∈ (λ e. DividingTaps n d e.0 ⊎ ((f : ℕ × ℕ) → f ∈ ks → f.0 ≡ e.0 → f ≡ e)) ks

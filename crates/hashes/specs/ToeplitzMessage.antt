@@ -90,7 +90,8 @@ polynomial_nil = refl
 polynomial_cons : (b : ℕ) (m : List ℕ) → bit_polynomial (b ∷ m) ≡ bit_polynomial m * 2 ^ 8 + from_bits (bits 8 b)
 unfolding bit_polynomial message_bits byte_bits
 polynomial_cons b m =
-    ap from_bits (append_assoc (bits 8 b) (byte_bits m) (1 ∷ [])) ∙ from_bits_append (bits 8 b) (message_bits m) ∙ ap (λ (x : ℕ). from_bits (message_bits m) * 2 ^ x + from_bits (bits 8 b)) (length_bits 8 b)
+    ap from_bits (append_assoc (bits 8 b) (byte_bits m) (1 ∷ [])) ∙ from_bits_append (bits 8 b) (message_bits m)
+    ∙ ap (λ (x : ℕ). from_bits (message_bits m) * 2 ^ x + from_bits (bits 8 b)) (length_bits 8 b)
 
 byte_lt : (b : ℕ) → from_bits (bits 8 b) < 2 ^ 8
 byte_lt b = subst (λ (x : ℕ). from_bits (bits 8 b) < 2 ^ x) (length_bits 8 b) (from_bits_lt (bits 8 b) (bits_digits 8 b))
@@ -124,7 +125,9 @@ polynomial_injective (x ∷ a) [] h k e =
     never : (x r : ℕ) → 0 < x → 1 ≢ x * 256 + r
     never x r h e = omega arith
 polynomial_injective (x ∷ a) (y ∷ b) h k e =
-    let (rest, first) = parts (bit_polynomial a) (bit_polynomial b) (from_bits (bits 8 x)) (from_bits (bits 8 y)) (byte_lt x) (byte_lt y) (sym (polynomial_cons x a) ∙ e ∙ polynomial_cons y b) in
+    let (rest, first) =
+    parts (bit_polynomial a) (bit_polynomial b) (from_bits (bits 8 x)) (from_bits (bits 8 y)) (byte_lt x) (byte_lt y)
+    (sym (polynomial_cons x a) ∙ e ∙ polynomial_cons y b) in
     ap₂ ◌∷◌ (sym (mod-eq_of_lt h.0) ∙ bits_injective 8 x y first ∙ mod-eq_of_lt k.0) (polynomial_injective a b h.1 k.1 rest)
   where
     parts : (x y c d : ℕ) → c < 256 → d < 256 → x * 256 + c ≡ y * 256 + d → (x ≡ y) × (c ≡ d)

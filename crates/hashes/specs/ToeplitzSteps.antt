@@ -41,7 +41,9 @@ chosen_append : (n p s j : ℕ) (xs ys : List ℕ) → chosen n p s j (xs ++ ys)
 unfolding chosen
 chosen_append n p s j [] ys = ap (λ (x : ℕ). chosen n p s x ys) (sym (add-zero j))
 chosen_append n p s j (x ∷ xs) ys =
-    ap (bit_xor (x * state n p s j)) (chosen_append n p s (suc j) xs ys ∙ ap (λ (k : ℕ). bit_xor (chosen n p s (suc j) xs) (chosen n p s k ys)) (suc-add j (length xs) ∙ sym (add-suc j (length xs))))
+    ap (bit_xor (x * state n p s j))
+    (chosen_append n p s (suc j) xs ys
+    ∙ ap (λ (k : ℕ). bit_xor (chosen n p s (suc j) xs) (chosen n p s k ys)) (suc-add j (length xs) ∙ sym (add-suc j (length xs))))
     ∙ sym (xor_assoc (x * state n p s j) (chosen n p s (suc j) xs) (chosen n p s (j + suc (length xs)) ys))
 
 length_byte_bits : (m : List ℕ) → length (byte_bits m) ≡ 8 * length m

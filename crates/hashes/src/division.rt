@@ -1,5 +1,5 @@
 // The division hash: the message's polynomial times x^64, modulo the polynomial x^64 + p.
-ghost use Rattle.std.specs.Prelude.{◌≡◌, ℕ, ◌*◌, ◌/◌, ◌%◌, ◌^◌, ◌<◌, bit_xor, fold, slice_index};
+ghost use Rattle.std.specs.Prelude.{◌≡◌, ℕ, ◌/◌, ◌^◌, ◌<◌, bit_xor, fold, slice_index};
 ghost use Rattle.hashes.specs.Division.{DivisionFacts, division, division_family, division_hash, division_state, division_step};
 ghost use Rattle.hashes.specs.DivisionFamily.{division_lawful};
 

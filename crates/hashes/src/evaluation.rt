@@ -1,5 +1,5 @@
 // The evaluation hash: the message's words as the coefficients of a polynomial, evaluated at the key's point.
-ghost use Rattle.std.specs.Prelude.{◌≡◌, ℕ, ◌*◌, ◌/◌, ◌%◌, ◌^◌, ◌<◌, ◌+◌, List, [], ◌++◌, length, slice_index, slice_index_or};
+ghost use Rattle.std.specs.Prelude.{◌≡◌, ℕ, ◌*◌, ◌%◌, ◌^◌, ◌<◌, ◌+◌, List, [], ◌++◌, length, slice_index, slice_index_or};
 ghost use Rattle.std.specs.Int.{bytes_high_first};
 ghost use Rattle.std.specs.Int.Digits.{number_from_digits_after};
 ghost use Rattle.hashes.specs.Evaluation.{EvaluationFacts, EvaluationState, evaluation_family, evaluation_hash, evaluation_state, modulus, padded, with_word};

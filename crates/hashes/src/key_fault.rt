@@ -2,7 +2,7 @@
 ghost use Rattle.hashes.specs.KeyFault.{number_of_key_fault};
 ghost use Rattle.std.specs.Prelude.{◌≡◌};
 
-// Each fault has its number.
+// The numbers are those that the library and the program answer, so they stay as they are.
 #[derive(Debug, Clone, Copy, PartialEq, Eq)]
 pub enum KeyFault {
     // It has another length.
@@ -14,7 +14,6 @@ pub enum KeyFault {
 }
 
 impl KeyFault {
-    // The refusal's number.
     pub fn number(&self) -> u8
         ensures { result ≡ number_of_key_fault self.now }
     {

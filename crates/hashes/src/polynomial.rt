@@ -41,7 +41,7 @@ pub(crate) fn extend_sums(words: &mut [u64], half: usize, b: u64)
 }
 
 // The value at v of an additive function, by a table with a row for each half byte of v.
-#[tactic(auto, using(crate::proofs::Sums::half_byte_step, crate::proofs::Sums::half_bytes_left))]
+#[tactic(auto, using(crate::proofs::Sums::half_byte_step, crate::proofs::Sums::higher_half_bytes))]
 pub(crate) fn by_half_bytes(rows: &[[u64; 16]; 16], v: u64) -> u64
     ensures { (f : ℕ → ℕ) → Additive f → HalfByteRows f rows.now → result ≡ f v }
 {

@@ -25,7 +25,8 @@ loop-k-preserved g c =
     record {
       len = c.extend_sums.ensures.len ∙ c.loop-k.invariant.len;
       filled =
-          filled_twice (λ t. times_mod (2 ^ 64 + c.args.w) t c.args.a) (multiple_add (2 ^ 64 + c.args.w) (word_pos 64 c.args.w) c.args.a) c.loop-k.k _ _ c.loop-k.result c.extend_sums.new.words
+          filled_twice (λ t. times_mod (2 ^ 64 + c.args.w) t c.args.a) (multiple_add (2 ^ 64 + c.args.w) (word_pos 64 c.args.w) c.args.a)
+          c.loop-k.k _ _ c.loop-k.result c.extend_sums.new.words
           half c.loop-k.invariant.power c.loop-k.invariant.filled c.extend_sums.ensures.below c.extend_sums.ensures.above;
       power = c.double-power.ensures ∙ power_doubled 63 c.args.w c.args.a c.loop-k.power c.loop-k.k c.ranges.w.fits c.loop-k.invariant.power;
     }

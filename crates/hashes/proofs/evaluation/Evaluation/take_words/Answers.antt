@@ -16,6 +16,7 @@ returns c =
     let all : take c.loop-bytes.bytes-index words ≡ words = take_all _ _ c.loop-bytes-test.false in
     ap (evaluation_state s.multiples.point s.value) c.extend.ensures
     ∙ sym (bytes_held s.multiples.point s.value s.pending rest (omega (arith, ap length none)))
-    ∙ ap (λ e. absorbed evaluation_family e rest) (c.self.view_is ∙ c.loop-bytes.invariant.moved ∙ ap (fold (absorbed evaluation_family) c.args.self.now) (all ∙ c.as_chunks.ensures.front))
+    ∙ ap (λ e. absorbed evaluation_family e rest)
+    (c.self.view_is ∙ c.loop-bytes.invariant.moved ∙ ap (fold (absorbed evaluation_family) c.args.self.now) (all ∙ c.as_chunks.ensures.front))
     ∙ ap (absorbed evaluation_family (fold (absorbed evaluation_family) c.args.self.now (first_chunks 8 (length part / 8) part))) c.as_chunks.ensures.back
     ∙ absorbed_chunks evaluation_family 8 (length part / 8) c.args.self.now part
