@@ -2,13 +2,13 @@
 
 use crate::ffi;
 use crate::mismatch::{Mismatch, hex};
-use independent::families;
+use independent::families::{self, key_len};
 use independent::generate::keys::Keys;
 use independent::generate::lines::{any_line, damages};
 use independent::generate::{Random, images, lines, sites};
 use independent::image::{self, SEAL_FIELD_LEN};
 use independent::program::{self, LONGEST_INPUT};
-use independent::site::LONGEST_MESSAGE;
+use independent::site::{LONGEST_MESSAGE, PAD_LEN};
 use std::fmt;
 
 type Outcome = Result<(), Box<Mismatch>>;
@@ -310,18 +310,19 @@ fn program_inputs(generator: &mut Generator, count: usize) -> Outcome {
             _ => input.extend(any_text(random)),
         }
         if i % FULL_EVERY == 0 {
+            let front = 1 + key_len(code).unwrap_or(8) + PAD_LEN;
             let len = LONGEST_INPUT - 1 + random.below(4);
-            lengthen(random, &mut input, len);
+            lengthen(random, &mut input, front, len);
         }
         seal(&input)?;
     }
     Ok(())
 }
 
-/// Brings an input to a length by rules or by a comment.
-fn lengthen(random: &mut Random, input: &mut Vec<u8>, len: usize) {
+/// Brings an input to a length by rules after its front, the code and the key buffer, or by a comment.
+fn lengthen(random: &mut Random, input: &mut Vec<u8>, front: usize, len: usize) {
     if random.one_in(2) {
-        input.truncate(17);
+        input.truncate(front);
         input.extend(b"zone 1 \"A\"\npoint 1 1 heat\n");
         while input.len() + b"rule 1 1\n".len() < len {
             input.extend(b"rule 1 1\n");

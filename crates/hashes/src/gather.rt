@@ -18,7 +18,7 @@ pub struct Gather<F: Family> {
 impl<F: Family> Family for Gather<F> {
     ghost meaning = { F.meaning };
 
-    // The state below, moved on by the bytes held.
+    // What the inner family will stand for once it has the bytes that are held back.
     ghost state = { λ g. absorbed F.meaning (F.state g.below) g.held };
 
     ghost lawful = { F.lawful };

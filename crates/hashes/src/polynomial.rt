@@ -1,4 +1,4 @@
-// Polynomials over GF(2) in words: the coefficient at x^i is the bit worth 2^i. As a modulus, a word w stands for x^64 + w.
+// Polynomials over GF(2) in words: bit i of a word is the coefficient at x^i. As a modulus, a word w stands for x^64 + w.
 ghost use Rattle.std.specs.Prelude.{◌≡◌, ℕ, ◌+◌, ◌*◌, ◌/◌, ◌%◌, ◌^◌, ◌<◌, ◌≤◌, bit_xor, length, slice_index};
 ghost use Rattle.std.specs.Int.{IsPowerOfTwo};
 ghost use Rattle.hashes.specs.Additive.{Additive, HalfByteRows};

@@ -40,7 +40,7 @@ impl Toeplitz {
         }
     }
 
-    // The bit that comes in: one where an odd number of tapped bits are one.
+    // The bit that comes in: the parity of the tapped bits.
     fn feedback(&self) -> u64
         ensures { result ≡ count_ones (bit_and self.now.register self.now.taps) % 2 }
     {

@@ -20,6 +20,7 @@ sentence_input (zone n name) = a_record (records.zone n (decoded name))
 sentence_input (point n z kind) = a_record (records.point n z kind)
 sentence_input (rule z n) = a_record (records.rule z n)
 
+-- what a reading asks for: that of its sentence, or a refusal
 abbrev pub reading_input : Result Sentence (ℕ × ℕ) → Input
 reading_input (Ok s) = sentence_input s
 reading_input (Err e) = unread e.0 e.1
@@ -69,6 +70,7 @@ abbrev pub column_of_line_fault : LineFault → ℕ
 column_of_line_fault (Read f c) = c
 column_of_line_fault (Record f) = 0
 
+-- the answer of a line's call by its number and column
 abbrev pub line_reply : Result ℕ LineFault → Reply
 line_reply (Ok n) = taken n
 line_reply (Err f) = refused (number_of_line_fault f) (column_of_line_fault f)

@@ -7,6 +7,7 @@ use Rattle.line_reader.specs.declared.fault.InputFault.{InputFault}
 use Rattle.line_reader.specs.InputFaults.{number_of_input_fault}
 use Rattle.line_reader.specs.SiteInput.{Scheme, division_scheme, evaluation_scheme, toeplitz_scheme}
 
+-- the code of a family
 abbrev pub code_of_family : FamilyCode → ℕ
 code_of_family Division = 1
 code_of_family Toeplitz = 2
@@ -27,5 +28,6 @@ abbrev pub family_answer : Result FamilyCode InputFault → Answer ℕ
 family_answer (Ok family) = Ok (code_of_family family)
 family_answer (Err fault) = Err (number_of_input_fault fault)
 
+-- what the code answers, by number, is what the byte picks
 abbrev pub PicksFamily : ℕ → Result FamilyCode InputFault → Type 0
 PicksFamily code result = family_answer result ≡ picked code

@@ -10,8 +10,9 @@ pub mod Handover
 pub mod Texts
 pub mod Making
 pub mod MakeFaults
-pub mod Sending
 pub mod SiteInput
 pub mod InputFaults
 pub mod FamilyCodes
 pub mod WorkedSums
+-- From here on definitions that contracts of private functions alone cite.
+pub mod Sending

@@ -49,6 +49,7 @@ making M key pad room (all_taken rs) =
     cond (nat_le (length i) room) (Ok (length i), filled_up room i) (unmade room 50 0 0)
 making M key pad room (stopped number line column) = unmade room number line column
 
+-- by what opening the key buffer answers
 abbrev pub made_by : (M : Meaning) → List ℕ → List ℕ → ℕ → Answer (View M) → Making
 made_by M buffer text room (Ok v) = making M (key_of M buffer) (pad_of M buffer) room (sent [] (lines_of text) 1)
 made_by M buffer text room (Err n) = unmade room n 0 0

@@ -31,6 +31,7 @@ toeplitz_scheme = record {
 abbrev pub evaluation_scheme : Scheme
 evaluation_scheme = record { key_len = 8; refusal = λ key. zero_refusal (word key); formula = λ key m. evaluation_hash (word key) m }
 
+-- the scheme of a code
 abbrev pub scheme_by : ℕ → Option Scheme
 scheme_by code =
     cond (code == 1) (Some division_scheme) (cond (code == 2) (Some toeplitz_scheme) (cond (code == 3) (Some evaluation_scheme) None))
@@ -52,6 +53,7 @@ abbrev pub seal_of_lines : Scheme → List ℕ → ℕ → Sent → InputAnswer
 seal_of_lines S key pad (all_taken rs) = Ok (length (message rs) + seal_field_length, bit_xor (S.formula key (message rs)) pad)
 seal_of_lines S key pad (stopped number line column) = Err (number, (line, column))
 
+-- a refused key comes before what the lines come to
 abbrev pub unless_refused_key : Option ℕ → InputAnswer → InputAnswer
 unless_refused_key None later = later
 unless_refused_key (Some n) later = no_seal n
@@ -64,11 +66,12 @@ seal_by_scheme S rest =
     let text = drop (S.key_len + 8) rest in
     cond (nat_le (S.key_len + 8) (length rest)) (unless_refused_key (S.refusal key) (seal_of_lines S key pad (sent [] (lines_of text) 1))) (no_seal 1)
 
--- 4 where there is no code, or it picks nothing
+-- 4 where the code picks nothing
 abbrev pub seal_by : Option Scheme → List ℕ → InputAnswer
 seal_by None rest = no_seal 4
 seal_by (Some S) rest = seal_by_scheme S rest
 
+-- or where there is no code
 abbrev pub seal_of_parts : Option ℕ → List ℕ → InputAnswer
 seal_of_parts None rest = no_seal 4
 seal_of_parts (Some code) rest = seal_by (scheme_by code) rest

@@ -11,7 +11,7 @@ abbrev pub on_first : ℕ → List (List ℕ) → List (List ℕ)
 on_first b [] = (b ∷ []) ∷ []
 on_first b (l ∷ ls) = (b ∷ l) ∷ ls
 
--- the lines of a text: it is cut at each 0A, and bytes after the last are a line if there are any
+-- the lines of a text: each ends before a 0A, and what follows the last one counts as a line unless it is empty
 abbrev pub lines_of : List ℕ → List (List ℕ)
 lines_of [] = []
 lines_of (b ∷ bs) = cond (b == 0x0A) ([] ∷ lines_of bs) (on_first b (lines_of bs))
@@ -30,6 +30,7 @@ escaped [] = []
 escaped (b ∷ bs) =
     cond (b == 34) (92 ∷ 34 ∷ escaped bs) (cond (b == 92) (92 ∷ 92 ∷ escaped bs) (cond (b == 10) (92 ∷ 110 ∷ escaped bs) (b ∷ escaped bs)))
 
+-- the kind with a number; it is asked of 1 to 4 alone
 abbrev pub kind_of : ℕ → Kind
 kind_of k = cond (k == 1) Smoke (cond (k == 2) Heat (cond (k == 3) Call Sounder))
 

@@ -1,4 +1,4 @@
-// The calls of a register, one of them a line of text, which makes the call that it spells.
+// The calls that can be made on a register. A line of text is one of them, and stands for another.
 ghost use Rattle.line_reader.specs.Calls.{LinesExact, line_input, line_reply, sentence_input};
 ghost use Rattle.line_reader.specs.Reading.{decoded, said};
 ghost use Rattle.register.specs.Inputs.{input_after, input_output, input_reply};
@@ -25,7 +25,7 @@ pub enum Call<'a> {
     Zone { number: u32, name: &'a [u8] },
     // A point of a kind, in a zone. A byte and no enum, as in a record.
     Point { number: u32, zone: u32, kind: u8 },
-    // An alarm in the zone drives the point.
+    // The point that goes off where the zone has an alarm.
     Rule { zone: u32, point: u32 },
 }
 

@@ -1,4 +1,5 @@
-// Lines of a site file: what one says, or why it is refused and at which column, and the calls that lines make on a register.
+// Lines of a site file: what one says, or why it is refused and at which column; the calls that lines make on a register, and what two lists of
+// calls are worth; the image of a whole text, and the seal of a whole input.
 #![tactic(auto)]
 
 mod bytes;

@@ -57,27 +57,33 @@ pub data Checks (code : ℕ) : List Record → List ℕ → ℕ → Outcome → 
 
 -- The same as a function. Each field takes some bytes, so the length bounds the number of fields.
 
+-- the value of a field
 abbrev pub value_of : Field → List ℕ
 value_of (field tag value) = value
 
+-- at a seal field, by the bytes after it
 abbrev pub seal_outcome : ℕ → List Record → ℕ → List ℕ → List ℕ → Outcome
 seal_outcome code before offset value (b ∷ rest) = faulty 40 (offset + seal_field_length)
 seal_outcome code before offset value [] = cond (slice_index value 0 == code) (compares before (drop 1 value)) (faulty 41 offset)
 
+-- at a record's field, by the row that refuses the record, if any
 abbrev pub record_outcome : ℕ → Outcome → Option RecordFault → Outcome
 record_outcome offset later None = later
 record_outcome offset later (Some f) = faulty (number_of_record_fault f) offset
 
+-- at the first field, if there is one
 abbrev pub field_outcome : ℕ → List Record → ℕ → (Field → List ℕ → Outcome) → Option (Field × List ℕ) → Outcome
 field_outcome code before offset later None = faulty 40 offset
 field_outcome code before offset later (Some p) =
     cond (is_record p.0) (record_outcome offset (later p.0 p.1) (first_fault before (record_in p.0)))
     (cond (is_seal p.0) (seal_outcome code before offset (value_of p.0) p.1) (faulty 40 offset))
 
+-- from an offset on, with at most so many fields to go
 abbrev pub check_from : ℕ → ℕ → List Record → List ℕ → ℕ → Outcome
 check_from zero code before bytes offset = faulty 40 offset
 check_from (suc fuel) code before bytes offset =
     field_outcome code before offset (λ f rest. check_from fuel code (before ++ (record_in f ∷ [])) rest (offset + length (bytes_of f))) (next_field bytes)
 
+-- of a whole image
 abbrev pub check : ℕ → List ℕ → Outcome
 check code bytes = check_from (length bytes) code [] bytes 0

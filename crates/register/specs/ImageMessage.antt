@@ -5,6 +5,7 @@ use Rattle.std.specs.List.{AllByRecursion}
 use Rattle.register.specs.Records.{Field, field, bytes_of}
 use Rattle.register.specs.Fields.{next_field, seal_tag, seal_length, is_seal}
 
+-- a field is a seal field
 abbrev pub SealField : Field → Type 0
 SealField (field tag value) = (tag ≡ seal_tag) × (length value ≡ seal_length)
 
@@ -30,6 +31,7 @@ pub data MessageOf (image : List ℕ) : List ℕ → Type 0 where
 
 -- The same as a function, with the length as a bound for the number of fields.
 
+-- by the first field, if there is one
 abbrev pub message_at : List ℕ → (List ℕ → List ℕ) → Option (Field × List ℕ) → List ℕ
 message_at bytes later None = bytes
 message_at bytes later (Some p) = cond (is_seal p.0) [] (bytes_of p.0 ++ later p.1)

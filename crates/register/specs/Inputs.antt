@@ -5,11 +5,13 @@ use Rattle.register.specs.Run.{Input, a_record, no_record, unread, Reply, taken,
 use Rattle.register.specs.View.{View, after, reply}
 use Rattle.register.specs.Writing.{output_after}
 
+-- its reply
 abbrev pub input_reply : (M : Meaning) → View M → Input → Reply
 input_reply M v (a_record r) = reply M v r
 input_reply M v no_record = taken v.known.bytes
 input_reply M v (unread n column) = refused n column
 
+-- what it then stands for
 abbrev pub input_after : (M : Meaning) → View M → Input → View M
 input_after M v (a_record r) = after M v r
 input_after M v no_record = v

@@ -1,5 +1,5 @@
 -- The rows of the book as tests, on what is known of the records taken before.
-use Rattle.std.specs.Prelude.{ℕ, ◌+◌, Bool, false, not, ◌&&◌, ◌||◌, if◌then◌else◌, List, length, Some, None, Ok, Err, Option, Result, ◌==◌, nat_le, nat_lt}
+use Rattle.std.specs.Prelude.{ℕ, ◌+◌, Bool, false, not, ◌&&◌, ◌||◌, if◌then◌else◌, List, length, Some, None, Option, ◌==◌, nat_le, nat_lt}
 use Rattle.std.specs.List.{find, list_all, list_any}
 use Rattle.register.specs.declared.fault.RecordFault.{RecordFault}
 use Rattle.register.specs.declared.fault.RecordFault.TheVariants.{Range, Name, Repeated, Missing, Full}
@@ -88,11 +88,6 @@ first_fault before r = first_fault_by (known_of before) r
 -- the first row that fits a record whatever was taken before it, if any
 abbrev pub unsound : Record → Option RecordFault
 unsound r = if range_fault r then Some Range else (if name_fault r then Some Name else None)
-
--- what the book answers to a record, by the row that refuses it, if any
-abbrev pub judgement : Record → Option RecordFault → Result Record RecordFault
-judgement r None = Ok r
-judgement r (Some f) = Err f
 
 -- numbers that are declared, with one more
 abbrev pub with_number : (ℕ → Bool) → ℕ → ℕ → Bool

@@ -11,10 +11,11 @@ pub mod Writing
 pub mod Inputs
 pub mod Entries
 pub mod Values
-pub mod Encoded
 pub mod Image
 pub mod ImageMessage
-pub mod FieldPlaces
 pub mod Check
-pub mod Walking
 pub mod Facts
+-- From here on definitions that contracts of private functions alone cite.
+pub mod Encoded
+pub mod FieldPlaces
+pub mod Walking

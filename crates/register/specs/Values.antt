@@ -10,6 +10,7 @@ use Rattle.register.specs.Records.{Record, zone, point, rule}
 use Rattle.register.specs.Known.{Known}
 use Rattle.register.specs.View.{View}
 
+-- the record that a call asks for
 abbrev pub record_of : SiteRecord → Record
 record_of (Zone number name) = zone number name.now
 record_of (Point number in_zone kind) = point number in_zone kind
@@ -26,5 +27,6 @@ point_at book p = declared_in book.points p
 abbrev pub known_in : Book → Known
 known_in book = record { zones = zone_at book; points = point_at book; bytes = book.len }
 
+-- what a register stands for, its family's state read by `state`
 abbrev pub view : {F : Type 0} (M : Meaning) → (F → M.State) → Register F → View M
 view M state r = record { state = state r.family; pad = r.pad; known = known_in r.book }

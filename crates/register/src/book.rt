@@ -21,7 +21,8 @@ pub(crate) struct Book {
 
 impl Book {
     ghost use Rattle.std.specs.Prelude.{◌≡◌, ◌+◌, []};
-    ghost use Rattle.register.specs.Known.{judgement, known_of, missing_fault, first_fault_by, repeat_fault, with_declared, with_record};
+    ghost use Rattle.hashes.specs.KeyFault.{judged};
+    ghost use Rattle.register.specs.Known.{known_of, missing_fault, first_fault_by, repeat_fault, with_declared, with_record};
     ghost use Rattle.register.specs.Records.{field_length};
     ghost use Rattle.register.specs.Values.{known_in, record_of};
 
@@ -69,7 +70,7 @@ impl Book {
 
     // Refuses a record by the first row that fits.
     pub(crate) fn admit<'a>(&self, record: SiteRecord<'a>) -> Result<SoundRecord<'a>, RecordFault>
-        ensures { result ≡ judgement (record_of «record».entry) (first_fault_by (known_in self.now) (record_of «record».entry)) }
+        ensures { result ≡ judged (record_of «record».entry) (first_fault_by (known_in self.now) (record_of «record».entry)) }
     {
         let sound = SoundRecord::try_from(record)?;
         if self.repeats(&sound) {

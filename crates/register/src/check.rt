@@ -54,7 +54,7 @@ pub fn check<F: Family>(buffer: &mut [u8], image: &[u8]) -> Result<bool, ImageRe
     ensures passes { (verdict_of result ≡ says 1) ↔ Passes F.meaning buffer.old image.now }
     ensures cleared { buffer.new ≡ replicate (length buffer.old) 0 }
 {
-    // Offset 0 where no field is at fault, as published.
+    // Offset 0 where no field is at fault (docs/REFUSALS.md).
     let mut register = Register::<F>::open(buffer).map_err(|fault| (ImageFault::Key(fault), 0))?;
     let seal = read_records(&mut register, image)?;
     Ok(seal == register.close())

@@ -1,7 +1,7 @@
 // Entries of numbers: which numbers are declared.
 ghost use Rattle.std.specs.Prelude.{◌≡◌, ℕ, ◌<◌, false};
 
-// The entry of a number.
+// What is kept of a number; a record, so that an entry can be lent and changed as a whole.
 #[derive(Clone, Copy, Debug, PartialEq, Eq)]
 struct Entry {
     declared: bool,

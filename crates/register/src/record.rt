@@ -9,7 +9,7 @@ pub enum SiteRecord<'a> {
     Zone { number: u32, name: &'a [u8] },
     // A point of a kind, in a zone. A byte and no enum, since a call may ask for any kind, and one that there is not is a fault.
     Point { number: u32, zone: u32, kind: u8 },
-    // An alarm in the zone drives the point.
+    // The point that goes off where the zone has an alarm.
     Rule { zone: u32, point: u32 },
 }
 
@@ -20,7 +20,7 @@ pub fn point_record<'a>(number: u32, zone: u32, kind: u8) -> SiteRecord<'a>
     SiteRecord::Point { number, zone, kind }
 }
 
-// A rule as a record.
+// A rule as a record, for callers that hold the two numbers.
 pub fn rule_record<'a>(zone: u32, point: u32) -> SiteRecord<'a>
     ensures { record_of result ≡ Record.rule zone point }
 {

@@ -120,7 +120,7 @@ impl<F: Family> Register<F> {
         self.apply(point_record(number, zone, kind))
     }
 
-    // Adds a rule: an alarm in the zone drives the point.
+    // Adds a rule: where the zone has an alarm, the point goes off.
     pub fn rule(&mut self, zone: u32, point: u32) -> Result<usize, RecordFault>
         ensures answers { reply_of result ≡ reply F.meaning (view F.meaning F.state self.old) (Record.rule zone point) }
         ensures leaves { view F.meaning F.state self.new ≡ after F.meaning (view F.meaning F.state self.old) (Record.rule zone point) }

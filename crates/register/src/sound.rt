@@ -84,11 +84,12 @@ fn bad_name(record: SiteRecord) -> bool
 }
 
 impl<'a> TryFrom<SiteRecord<'a>> for SoundRecord<'a> {
-    ghost use Rattle.register.specs.Known.{judgement, unsound};
+    ghost use Rattle.hashes.specs.KeyFault.{judged};
+    ghost use Rattle.register.specs.Known.{unsound};
 
     type Error = RecordFault;
 
-    ghost try_from_gives = { λ given made. made ≡ judgement (record_of given) (unsound (record_of given)) };
+    ghost try_from_gives = { λ given made. made ≡ judged (record_of given) (unsound (record_of given)) };
 
     fn try_from(record: SiteRecord<'a>) -> Result<SoundRecord<'a>, RecordFault> {
         if out_of_range(record) {

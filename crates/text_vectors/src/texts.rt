@@ -1,4 +1,4 @@
-// Images made of texts, by the point 1 without a pad and through the gather, and checked; and texts that are refused.
+// Images made of texts, by the evaluation hash at 1 with a pad of zeros and through the gather, and checked; and texts that are refused.
 use crate::known;
 use crate::known::{Refused, Sealed};
 use hashes::evaluation::Evaluation;

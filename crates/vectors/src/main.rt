@@ -1,4 +1,5 @@
-// Hashes messages and reads lines with known answers, and compares: a line for each, what went in and what came out, and a closing count.
+// Runs hashes, keys, lines, sites, limits and images with known answers, and compares: a line for each, what went in and what came out, and a
+// closing count.
 #![tactic(auto)]
 
 mod buffers;
