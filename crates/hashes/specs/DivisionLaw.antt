@@ -14,7 +14,7 @@ use Rattle.hashes.specs.Remainder.{remainder_xor, remainder_small}
 use Rattle.hashes.specs.Divisors.{divides_of_remainder, irreducible_divisors}
 use Rattle.hashes.specs.Words.{word_degree, word_pos}
 
--- Messages of degree b at most, and a list without repeats of keys under which their hashes differ by d.
+-- Messages of degree b at most, and distinct keys that make their hashes differ by d.
 pub division_law : (n b m m' d : ℕ) → m ≢ m' → m < 2 ^ suc b → m' < 2 ^ suc b → d < 2 ^ n → (ws : List ℕ) → Distinct ws
     → ((w : ℕ) → w ∈ ws → (w < 2 ^ n) × Irreducible (2 ^ n + w) × (bit_xor (division n w m) (division n w m') ≡ d)) → length ws * n ≤ b + n
 unfolding division

@@ -37,7 +37,7 @@ byte_bits (b ∷ bs) = bits 8 b ++ byte_bits bs
 unfoldable pub message_bits : List ℕ → List ℕ
 message_bits m = byte_bits m ++ (1 ∷ [])
 
--- the bitwise sum of S_(j + i) over every place i where the list has a one
+-- the sum of the states S_(j + i), bit by bit, i being the places of the list's ones
 unfoldable pub chosen : ℕ → ℕ → ℕ → ℕ → List ℕ → ℕ
 chosen n p s j [] = 0
 chosen n p s j (d ∷ ds) = bit_xor (d * state n p s j) (chosen n p s (suc j) ds)

@@ -72,7 +72,7 @@ pub record Column (line : List ℕ) (c : ℕ) : Type 0 where
   pub begins : Begins Spells (take c line)
   pub longest : (k : ℕ) → k ≤ length line → Begins Spells (take k line) → k ≤ c
 
--- the beginning of a line ends just after a backslash that begins an escape
+-- the beginning of a line ends right behind the backslash of an escape
 pub data OpensEscape : List ℕ → Type 0 where
   opens : {n : ℕ} {u w v : List ℕ} → Number u n → Name w v → OpensEscape (codes "zone " ++ (u ++ (codes " \"" ++ (w ++ codes "\\"))))
 

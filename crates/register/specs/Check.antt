@@ -10,7 +10,7 @@ use Rattle.register.specs.Book.{BookRecords}
 use Rattle.register.specs.Image.{Outcome, compares, faulty, check, image}
 use Rattle.register.specs.View.{View, standing, sealed, key_of, pad_of, opening}
 
--- A verdict: 1 or 0, or a fault's number and the offset of the faulty field.
+-- A verdict: 1 or 0, or the number of a fault with the offset of its field.
 pub data Verdict : Type 0 where
   says : ℕ → Verdict
   faulted : (number offset : ℕ) → Verdict

@@ -35,7 +35,7 @@ is_known_length tag n = is_record_length tag n || (tag == seal_tag && n == seal_
 abbrev pub FramingFault : List ℕ → Type 0
 FramingFault bytes = (length bytes < 3) ⊎ ((length bytes < 3 + number_at bytes 1) ⊎ (is_known_length (slice_index bytes 0) (number_at bytes 1) ≡ false))
 
--- What a check comes to: records and the seal bytes to compare with their seal, or a fault's number and the offset of the faulty field.
+-- What a check comes to: records and the seal bytes to compare with their seal, or the number of a fault with the offset of its field.
 pub data Outcome : Type 0 where
   compares : (records : List Record) (seal : List ℕ) → Outcome
   faulty : (number offset : ℕ) → Outcome
