@@ -83,6 +83,13 @@ const REFUSED: [Refused; 8] = [
     },
 ];
 
+// The image of no text, which is longer than an output of eleven bytes.
+const NO_TEXT: Refused = Refused {
+    what: "none, in eleven bytes",
+    bytes: b"",
+    refusal: (50, (0, 0)),
+};
+
 fn all_zero(bytes: &[u8]) -> bool {
     bytes.iter().all(|byte| *byte == 0)
 }
@@ -112,11 +119,15 @@ fn show_made(rt: &impl Print, tally: &mut Tally, known: &Sealed) -> io::Result<(
     }
 }
 
-fn show_refused(rt: &impl Print, tally: &mut Tally, known: &Refused) -> io::Result<()> {
+fn show_refused(
+    rt: &impl Print,
+    tally: &mut Tally,
+    known: &Refused,
+    out: &mut [u8],
+) -> io::Result<()> {
     let mut buffer = BUFFER;
-    let mut out = [0xFF; 40];
-    let refusal = make::<Gather<Evaluation>>(known.bytes, &mut buffer, &mut out).err();
-    let clean = all_zero(&out) && all_zero(&buffer);
+    let refusal = make::<Gather<Evaluation>>(known.bytes, &mut buffer, out).err();
+    let clean = all_zero(out) && all_zero(&buffer);
     known::show_refusal(rt, tally, "text", known, refusal, clean)
 }
 
@@ -125,7 +136,7 @@ pub fn run(rt: &impl Print, tally: &mut Tally) -> io::Result<()> {
         show_made(rt, tally, known)?;
     }
     for known in &REFUSED {
-        show_refused(rt, tally, known)?;
+        show_refused(rt, tally, known, &mut [0xFF; 40])?;
     }
-    Ok(())
+    show_refused(rt, tally, &NO_TEXT, &mut [0xFF; 11])
 }

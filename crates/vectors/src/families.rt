@@ -17,6 +17,66 @@ use tally::Tally;
 // The field of a zone 7 with the name A.
 const FIELD: [u8; 6] = [0x01, 0x00, 0x03, 0x00, 0x07, 0x41];
 
+// A message and its hash under a key.
+#[derive(Clone, Copy, Debug, PartialEq, Eq)]
+struct Hashed {
+    what: &'static str,
+    key: &'static [u8],
+    message: &'static [u8],
+    hash: u64,
+}
+
+const BY_DIVISION: [Hashed; 2] = [
+    Hashed {
+        what: "01, 1B, empty",
+        key: &[0, 0, 0, 0, 0, 0, 0, 0x1B],
+        message: &[],
+        hash: 0x1B,
+    },
+    Hashed {
+        what: "01, 1B, 01",
+        key: &[0, 0, 0, 0, 0, 0, 0, 0x1B],
+        message: &[1],
+        hash: 0x1B1B,
+    },
+];
+
+const BY_TOEPLITZ: [Hashed; 2] = [
+    Hashed {
+        what: "02, 1B and 1, empty",
+        key: &[0, 0, 0, 0, 0, 0, 0, 0x1B, 0, 0, 0, 0, 0, 0, 0, 1],
+        message: &[],
+        hash: 1,
+    },
+    Hashed {
+        what: "02, 1B and 1, 80",
+        key: &[0, 0, 0, 0, 0, 0, 0, 0x1B, 0, 0, 0, 0, 0, 0, 0, 1],
+        message: &[0x80],
+        hash: 0x0100000000000001,
+    },
+];
+
+const BY_EVALUATION: [Hashed; 3] = [
+    Hashed {
+        what: "03, 1, empty",
+        key: &[0, 0, 0, 0, 0, 0, 0, 1],
+        message: &[],
+        hash: 0x8000000000000001,
+    },
+    Hashed {
+        what: "03, 1, 010003000741",
+        key: &[0, 0, 0, 0, 0, 0, 0, 1],
+        message: &FIELD,
+        hash: 0x0100030007418001,
+    },
+    Hashed {
+        what: "03, 2, 010003000741",
+        key: &[0, 0, 0, 0, 0, 0, 0, 2],
+        message: &FIELD,
+        hash: 0x020006000E830004,
+    },
+];
+
 // A polynomial with taps all over the word, and a state and point to go with it.
 const DENSE: u64 = 0xAD93D23594C935A9;
 
@@ -63,64 +123,18 @@ fn run<F: Family>(
     }
 }
 
+fn run_all<F: Family>(rt: &impl Print, tally: &mut Tally, rows: &[Hashed]) -> io::Result<()> {
+    for row in rows {
+        run::<F>(rt, tally, row.what, row.key, row.message, row.hash)?;
+    }
+    Ok(())
+}
+
 // Short messages worked by hand.
 pub fn worked(rt: &impl Print, tally: &mut Tally) -> io::Result<()> {
-    run::<Division>(
-        rt,
-        tally,
-        "01, 1B, empty",
-        &POLYNOMIAL.to_be_bytes(),
-        &[],
-        0x1B,
-    )?;
-    run::<Division>(
-        rt,
-        tally,
-        "01, 1B, 01",
-        &POLYNOMIAL.to_be_bytes(),
-        &[1],
-        0x1B1B,
-    )?;
-    run::<Toeplitz>(
-        rt,
-        tally,
-        "02, 1B and 1, empty",
-        &bytes_of::<16>(&[POLYNOMIAL, 1]),
-        &[],
-        1,
-    )?;
-    run::<Toeplitz>(
-        rt,
-        tally,
-        "02, 1B and 1, 80",
-        &bytes_of::<16>(&[POLYNOMIAL, 1]),
-        &[0x80],
-        0x0100000000000001,
-    )?;
-    run::<Evaluation>(
-        rt,
-        tally,
-        "03, 1, empty",
-        &1u64.to_be_bytes(),
-        &[],
-        0x8000000000000001,
-    )?;
-    run::<Evaluation>(
-        rt,
-        tally,
-        "03, 1, 010003000741",
-        &1u64.to_be_bytes(),
-        &FIELD,
-        0x0100030007418001,
-    )?;
-    run::<Evaluation>(
-        rt,
-        tally,
-        "03, 2, 010003000741",
-        &2u64.to_be_bytes(),
-        &FIELD,
-        0x020006000E830004,
-    )
+    run_all::<Division>(rt, tally, &BY_DIVISION)?;
+    run_all::<Toeplitz>(rt, tally, &BY_TOEPLITZ)?;
+    run_all::<Evaluation>(rt, tally, &BY_EVALUATION)
 }
 
 // A message of 150 bytes, more than twice what the gather holds back.
