@@ -2,7 +2,7 @@
 
 use crate::families::{Family, Gather, UNKNOWN_CODE};
 use crate::lines::{self, Line};
-use crate::site::{Field, LONGEST_NAME, Record, Site};
+use crate::site::{Field, LONGEST_MESSAGE, LONGEST_NAME, Record, Site};
 use crate::with_family;
 
 pub const NOT_AN_IMAGE: u8 = 40;
@@ -11,6 +11,9 @@ pub const OUTPUT_TOO_SHORT: u8 = 50;
 
 const SEAL_TAG: u8 = 0x53;
 pub const SEAL_FIELD_LEN: usize = 12;
+
+/// How many bytes an image has at most.
+pub const LONGEST_IMAGE: usize = LONGEST_MESSAGE + SEAL_FIELD_LEN;
 
 /// Why a text has no image. Line and column are 0 where no line is at fault.
 #[derive(Debug, PartialEq, Clone, Copy)]
@@ -158,7 +161,7 @@ mod tests {
     }
 
     fn image(text: &[u8]) -> Vec<u8> {
-        let (answer, mut out) = made(text, 70_000);
+        let (answer, mut out) = made(text, LONGEST_IMAGE);
         out.truncate(answer.unwrap());
         out
     }

@@ -126,7 +126,7 @@ fn images(random: &mut Random, keys: &Keys) {
     for (code, family) in FAMILIES {
         let buffer = keys.buffer(random, code);
         for (kind, text) in &texts {
-            let mut out = vec![0; 70_000];
+            let mut out = vec![0; image::LONGEST_IMAGE];
             let length = image::make(code, text, &mut buffer.clone(), &mut out).expect("the text is sound");
             let made = out[..length].to_vec();
             make_row(&format!("make, {family}, {kind}"), code, text, &buffer);
@@ -136,7 +136,7 @@ fn images(random: &mut Random, keys: &Keys) {
 }
 
 fn make_row(name: &str, code: u8, text: &[u8], buffer: &[u8]) {
-    let (mut out, mut other_out) = (vec![0; 70_000], vec![0; 70_000]);
+    let (mut out, mut other_out) = (vec![0; image::LONGEST_IMAGE], vec![0; image::LONGEST_IMAGE]);
     let library = || ffi::make(code, black_box(text), &mut buffer.to_vec(), &mut out);
     let independent = || image::make(code, black_box(text), &mut buffer.to_vec(), &mut other_out);
     row(name, "ns/text byte", text.len(), library, independent);
@@ -157,7 +157,7 @@ fn sealings(random: &mut Random, keys: &Keys) {
     for (code, family) in FAMILIES {
         let buffer = keys.buffer(random, code);
         let key = &buffer[..buffer.len() - PAD_LEN];
-        let (mut out, mut copy) = (vec![0; 70_000], vec![0; 70_000]);
+        let (mut out, mut copy) = (vec![0; image::LONGEST_IMAGE], vec![0; image::LONGEST_IMAGE]);
         let length = image::make(code, &text, &mut buffer.clone(), &mut out).expect("the text is sound");
         let made = out[..length].to_vec();
         let message = &made[..length - image::SEAL_FIELD_LEN];

@@ -145,10 +145,10 @@ pub fn about_full(random: &mut Random) -> Vec<u8> {
 #[cfg(test)]
 mod tests {
     use super::*;
-    use crate::image::{Refusal, make};
+    use crate::image::{LONGEST_IMAGE, Refusal, make};
 
     fn made(text: &[u8]) -> Result<usize, Refusal> {
-        make(3, text, &mut [1; 16], &mut vec![0; 70_000])
+        make(3, text, &mut [1; 16], &mut vec![0; LONGEST_IMAGE])
     }
 
     #[test]

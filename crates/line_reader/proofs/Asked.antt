@@ -5,7 +5,7 @@ use Rattle.register.specs.Run.{Input, a_record, unread}
 use Rattle.line_reader.specs.Calls.{Asks, LinesExact, asks_amiss, asks_nothing, asks_point, asks_rule, asks_zone, line_input, reading_input}
 use Rattle.line_reader.specs.Grammar.{Name, Sentence, Spells, nothing, point, rule, zone, zone_line}
 use Rattle.line_reader.specs.Reading.{reading}
-use Rattle.line_reader.proofs.Judged.{Judged, judged, readings_exact}
+use Rattle.line_reader.proofs.Judged.{Judged, reading_judged, readings_exact}
 use Rattle.line_reader.proofs.Names.{name_decoded}
 
 -- the name of a zone's line has bytes
@@ -32,4 +32,4 @@ asked_only line _ (asks_rule {z} {n} s) = read_so line (rule z n) s
 asked_only line _ (asks_amiss {f} {c} faulty) = ap reading_input ((readings_exact.fault line f c).1 faulty)
 
 pub lines_exact : LinesExact
-lines_exact line input = (λ e. subst (Asks line) e (asked line (reading line) (judged line)), asked_only line input)
+lines_exact line input = (λ e. subst (Asks line) e (asked line (reading line) (reading_judged line)), asked_only line input)

@@ -3,14 +3,14 @@ use Rattle.std.proofs.Common.{◌≡◌, ℕ, ◌+◌, ◌<◌, ◌≤◌, List,
 use Rattle.std.proofs.lemmas.List.{take_more_set, drop_more, drop-set-lt}
 
 -- the first n bytes of all are written over those of out, and more are to come
-pub record Holds (out all : List ℕ) (n : ℕ) (bytes more : List ℕ) : Type 0 where
+pub record Decoded (out all : List ℕ) (n : ℕ) (bytes more : List ℕ) : Type 0 where
   pub within : n ≤ length bytes
   pub size : length bytes ≡ length out
   pub kept : drop n bytes ≡ drop n out
   pub written : all ≡ take n bytes ++ more
 
-module _ {out all : List ℕ} {n : ℕ} {bytes more : List ℕ} (h : Holds out all n bytes more) where
-  pub holds_more : (b : ℕ) (rest : List ℕ) → n < length bytes → more ≡ b ∷ rest → Holds out all (n + 1) (set bytes n b) rest
+module _ {out all : List ℕ} {n : ℕ} {bytes more : List ℕ} (h : Decoded out all n bytes more) where
+  pub holds_more : (b : ℕ) (rest : List ℕ) → n < length bytes → more ≡ b ∷ rest → Decoded out all (n + 1) (set bytes n b) rest
   holds_more b rest room e =
       let size = length-set bytes n b in
       let here = drop_more bytes n 0 room in

@@ -55,15 +55,15 @@ module _ (over rest : List ℕ) (r : Result Sentence ReadFault) (steady : (t : L
   opened : OpensEscape over → r ≡ Err Escape
   opened o = open_fault o rest r (steady rest (alike_refl rest))
 
-verdict : {line : List ℕ} → Reads read_form Spells OpensEscape line → Judged line (reading line)
-verdict (reads over [] (Ok s) steady h) =
+judged_by : {line : List ℕ} → Reads read_form Spells OpensEscape line → Judged line (reading line)
+judged_by (reads over [] (Ok s) steady h) =
     let e : reading (over ++ []) ≡ Ok s = rw (steady [] tt) in
     subst (Judged (over ++ [])) (sym e) (rw append-nil h)
-verdict (reads over (b ∷ t) (Ok s) steady h) =
+judged_by (reads over (b ∷ t) (Ok s) steady h) =
     let e : reading (over ++ (b ∷ t)) ≡ Err (11, length (over ++ (b ∷ t)) - length (b ∷ t)) = rw (steady (b ∷ t) refl) in
     subst (Judged (over ++ (b ∷ t))) (sym e)
     (Syntax, refl, faulty over (b ∷ t) (Ok s) steady Syntax ([], s, rw append-nil h) (λ _ q _. omega (arith, ap length q)) (λ o. let q = opened over (b ∷ t) (Ok s) steady o in absurd (let z : ◌≡◌ {A = ℕ} 0 1 = cc in omega arith)))
-verdict (reads over rest (Err f) steady (begins, o)) =
+judged_by (reads over rest (Err f) steady (begins, o)) =
     let e : reading (over ++ rest) ≡ Err (number_of_read_fault f, length (over ++ rest) - length rest) = rw (steady rest (alike_refl rest)) in
     subst (Judged (over ++ rest)) (sym e) (f, refl, faulty over rest (Err f) steady f begins (λ s _ q. absurd (let z : ◌≡◌ {A = ℕ} 0 1 = cc in omega arith)) (faults f steady o))
   where
@@ -71,8 +71,8 @@ verdict (reads over rest (Err f) steady (begins, o)) =
     faults Escape steady o = o refl
     faults Syntax steady o = λ p. let q = opened over rest (Err Syntax) steady p in absurd (let z : ◌≡◌ {A = ℕ} 0 1 = cc in omega arith)
 
-pub judged : (line : List ℕ) → Judged line (reading line)
-judged line = verdict (form_reads line)
+pub reading_judged : (line : List ℕ) → Judged line (reading line)
+reading_judged line = judged_by (form_reads line)
 
 reads_whole : {line : List ℕ} {s : Sentence} → Spells line s → reading line ≡ Ok s
 reads_whole h = let e = form_whole h in rw e
@@ -98,11 +98,11 @@ fault_by Escape Escape e = refl
 pub readings_exact : ReadingsExact
 readings_exact =
     record {
-      sentence = λ line s. (λ e. subst (Judged line) e (judged line), λ h. reads_whole h);
-      fault = λ line f c. (λ e. numbered line f c (subst (Judged line) e (judged line)), λ h. refuse line f c h (reading line) refl);
+      sentence = λ line s. (λ e. subst (Judged line) e (reading_judged line), λ h. reads_whole h);
+      fault = λ line f c. (λ e. numbered line f c (subst (Judged line) e (reading_judged line)), λ h. refuse line f c h (reading line) refl);
       one_sentence = λ line s t h k. let p = reads_whole h in let q = reads_whole k in cc;
       one_fault = faulty_one;
-      one_of_both = λ line. either line (reading line) (judged line);
+      one_of_both = λ line. either line (reading line) (reading_judged line);
       not_both = λ line s f c h k. k.unspelled s h;
     }
   where
@@ -110,9 +110,9 @@ readings_exact =
     numbered line f c (g, e, h) = subst (λ x. Faulty line x c) (fault_by g f (sym e)) h
 
     refuse : (line : List ℕ) (f : ReadFault) (c : ℕ) → Faulty line f c → (r : Result Sentence (ℕ × ℕ)) → reading line ≡ r → reading line ≡ Err (number_of_read_fault f, c)
-    refuse line f c h (Ok s) e = absurd (h.unspelled s (subst (Judged line) e (judged line)))
+    refuse line f c h (Ok s) e = absurd (h.unspelled s (subst (Judged line) e (reading_judged line)))
     refuse line f c h (Err (n, d)) e =
-        let j = subst (Judged line) e (judged line) in
+        let j = subst (Judged line) e (reading_judged line) in
         let q = faulty_one line j.0 f d c j.2 h in
         e ∙ ap₂ (λ (m k : ℕ). Err (m, k)) (j.1 ∙ ap number_of_read_fault q.0) q.1
 

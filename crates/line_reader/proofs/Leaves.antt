@@ -34,17 +34,17 @@ abbrev more : ℕ → ℕ → ℕ
 more n b = 10 * n + (b - 48)
 
 -- at most n digits, which take v to m
-pub record Run (n v : ℕ) (w : List ℕ) (m : ℕ) : Type 0 where
+pub record DigitsRun (n v : ℕ) (w : List ℕ) (m : ℕ) : Type 0 where
   pub digits : AllByRecursion (λ b. digit b ≡ true) w
   pub few : length w ≤ n
   pub value : m ≡ fold more v w
 
-digits_reads : (n v : ℕ) (text : List ℕ) → Reads (read_digits n v) (Run n v) Never text
+digits_reads : (n v : ℕ) (text : List ℕ) → Reads (read_digits n v) (DigitsRun n v) Never text
 digits_reads zero v text = stay text (Ok v) (λ _. refl) (record { digits = tt; few = omega arith; value = refl })
 digits_reads (suc n) v [] = stay_end (Ok v) refl (record { digits = tt; few = omega arith; value = refl })
 digits_reads (suc n) v (b ∷ t) = decide (cases_Bool (digit b)) (digits_reads n (more v b) t)
   where
-    decide : ((digit b ≡ true) ⊎ (digit b ≡ false)) → Reads (read_digits n (more v b)) (Run n (more v b)) Never t → Reads (read_digits (suc n) v) (Run (suc n) v) Never (b ∷ t)
+    decide : ((digit b ≡ true) ⊎ (digit b ≡ false)) → Reads (read_digits n (more v b)) (DigitsRun n (more v b)) Never t → Reads (read_digits (suc n) v) (DigitsRun (suc n) v) Never (b ∷ t)
     decide (inl e) h = pass b (λ s. rw e) (weaken (λ w m r. record { digits = (e, r.digits); few = omega arith; value = r.value }) (λ w o. o) h)
     decide (inr e) h = stay_at b t (Ok v) (λ s. rw e) (record { digits = tt; few = omega arith; value = refl })
 

@@ -1,5 +1,5 @@
 -- The seal of a text behind its key buffer, by a family's meaning and by its closed formula.
-use Rattle.std.proofs.Common.{◌≡◌, ℕ, ◌+◌, ◌<◌, ◌≤◌, Bool, true, false, cond, eqb, leb, List, [], length, take, drop, Some, None, Ok, Option, sym, refl, ap, ◌∙◌, ap₂, subst, arith, length-take, take-take, Err}
+use Rattle.std.proofs.Common.{◌≡◌, ℕ, ◌+◌, ◌<◌, ◌≤◌, Bool, true, false, cond, eqb, leb, List, [], length, take, drop, Some, Ok, Option, sym, refl, ap, ◌∙◌, ap₂, subst, arith, length-take, take-take, Err}
 use lib.Bits.{bit_xor}
 use Rattle.std.proofs.ByRecursion.{All-drop, All-take}
 use Rattle.std.proofs.lemmas.List.{drop-take}
@@ -17,6 +17,7 @@ use Rattle.hashes.specs.ToeplitzFamily.{toeplitz_facts}
 use Rattle.register.specs.Records.{message}
 use Rattle.register.specs.View.{View, opening, standing}
 use Rattle.register.proofs.Bounds.{book_bytes}
+use Rattle.register.proofs.Checked.{judged_is}
 use Rattle.line_reader.specs.Making.{Sent, all_taken, stopped, sent}
 use Rattle.line_reader.specs.declared.family_code.FamilyCode.{FamilyCode}
 use Rattle.line_reader.specs.declared.family_code.FamilyCode.TheVariants.{Division, Toeplitz, Evaluation}
@@ -27,11 +28,6 @@ use Rattle.line_reader.proofs.Fronts.{rest_of}
 use Rattle.line_reader.proofs.TextsPass.{sent_book}
 
 -- ---- by the meaning
-
--- a buffer that is taken, by its key
-taken_key : {V : Type 0} (v w : V) (o : Option ℕ) (later : InputAnswer) → Ok w ≡ judged v o → (w ≡ v) × (later ≡ unless_refused_key o later)
-taken_key v w None later e = (cc, refl)
-taken_key v w (Some m) later e = let z : ◌≡◌ {A = ℕ} 0 1 = cc in absurd (omega arith)
 
 module _ (M : Meaning) (rest : List ℕ) where
   pub key_in : List ℕ
@@ -72,12 +68,13 @@ module _ {M : Meaning} {rest buffer text : List ℕ} (cut : Cut M rest buffer te
       sized = omega (arith, length-take (M.key_len + 8) rest, cut.long)
 
   pub opened_stands : (v : View M) → Ok v ≡ opening M buffer → v ≡ standing M (key_in M rest) (pad_in M rest) []
-  opened_stands v o = (taken_key _ v (M.refusal (key_in M rest)) (no_seal 0) (o ∙ opening_is)).0
+  opened_stands v o = (judged_is v _ (M.refusal (key_in M rest)) (o ∙ opening_is)).0
 
   pub lines_come : (v : View M) → Ok v ≡ opening M buffer → (s : Sent) → sent [] (lines_of text) 1 ≡ s
       → seal_of_lines (scheme_of M) (key_in M rest) (pad_in M rest) s ≡ seal_by_scheme (scheme_of M) rest
   lines_come v o s comes =
-      (taken_key _ v (M.refusal (key_in M rest)) _ (o ∙ opening_is)).1
+      ap (λ (f : Option ℕ). unless_refused_key f (seal_of_lines (scheme_of M) (key_in M rest) (pad_in M rest) s))
+      (sym (judged_is v _ (M.refusal (key_in M rest)) (o ∙ opening_is)).1)
       ∙ scheme_is M rest cut.long s (ap (λ (x : List ℕ). sent [] (lines_of x) 1) (sym cut.back) ∙ comes)
 
 -- ---- by the formula

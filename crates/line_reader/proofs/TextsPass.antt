@@ -1,11 +1,11 @@
 -- The check passes an image exactly when some text makes it.
-use Rattle.std.proofs.Common.{◌≡◌, ℕ, ◌+◌, ◌^◌, ◌<◌, Bool, true, false, cond, eqb, List, [], ◌∷◌, ◌++◌, map, length, drop, Some, None, Ok, Option, sym, refl, ap, ◌∙◌, subst, append_assoc, append-nil, arith, length-drop, length-take, Err}
+use Rattle.std.proofs.Common.{◌≡◌, ℕ, ◌+◌, ◌^◌, ◌<◌, List, [], ◌∷◌, ◌++◌, map, length, drop, Ok, Option, sym, refl, ap, ◌∙◌, subst, append_assoc, append-nil, arith, length-drop, length-take, Err}
 use Rattle.std.specs.Int.{bytes_high_first}
 use lib.Bits.{xor_lt}
 use Rattle.std.proofs.ByRecursion.{All-take, All-drop}
 use Rattle.std.proofs.lemmas.Bool.{eqb-true}
 use Rattle.hashes.specs.Family.{Meaning, Lawful, Key, hash}
-use Rattle.hashes.specs.KeyFault.{judged, Answer}
+use Rattle.hashes.specs.KeyFault.{Answer}
 use Rattle.hashes.specs.Word.{Bytes, word}
 use Rattle.hashes.specs.Bytes.{word_64, word_injective}
 use Rattle.register.specs.declared.fault.RecordFault.{RecordFault}
@@ -16,7 +16,7 @@ use Rattle.register.specs.Records.{Record, message}
 use Rattle.register.specs.Run.{Input, a_record, no_record, unread, Reply, Step, takes, refuses, skips, rejects, step, step_by}
 use Rattle.register.specs.View.{View, key_of, opening, pad_of, sealed}
 use Rattle.register.proofs.Bounds.{book_bytes, seal_bytes}
-use Rattle.register.proofs.Checked.{opened_is}
+use Rattle.register.proofs.Checked.{opened_is, opened_parts}
 use Rattle.register.proofs.Rows.{accepted_iff}
 use Rattle.register.proofs.Runs.{step_sound}
 use Rattle.line_reader.specs.Calls.{line_input}
@@ -79,20 +79,12 @@ text_sends before (r ∷ rs) n h =
 
 -- ---- a buffer that opens holds a key and a pad
 
-sized_key : {V : Type 0} (b : Bool) (v w : V) (o : Option ℕ) → Ok v ≡ cond b (judged w o) (Err 1) → (b ≡ true) × (o ≡ None)
-sized_key true v w None e = (refl, refl)
-sized_key true v w (Some n) e = let z : ◌≡◌ {A = ℕ} 0 1 = cc in absurd (omega arith)
-sized_key false v w o e = let z : ◌≡◌ {A = ℕ} 0 1 = cc in absurd (omega arith)
-
 module _ (M : Meaning) (buffer : List ℕ) (bs : Bytes buffer) (v : View M) (opens : Ok v ≡ opening M buffer) where
-  parts : (eqb (length buffer) (M.key_len + 8) ≡ true) × (M.refusal (key_of M buffer) ≡ None)
-  parts = sized_key (eqb (length buffer) (M.key_len + 8)) v _ (M.refusal (key_of M buffer)) opens
-
   sized : length buffer ≡ M.key_len + 8
-  sized = eqb-true (length buffer) (M.key_len + 8) parts.0
+  sized = eqb-true (length buffer) (M.key_len + 8) (opened_parts M buffer v opens).0
 
   opened_key : Key M (key_of M buffer)
-  opened_key = record { bytes = All-take (λ (b : ℕ). b < 256) M.key_len buffer bs; sized = simp length-take (omega (arith, sized)); admitted = parts.1 }
+  opened_key = record { bytes = All-take (λ (b : ℕ). b < 256) M.key_len buffer bs; sized = simp length-take (omega (arith, sized)); admitted = (opened_parts M buffer v opens).2 }
 
   pad_small : pad_of M buffer < 2 ^ 64
   pad_small = word_64 (drop M.key_len buffer) (All-drop (λ (b : ℕ). b < 256) M.key_len buffer bs) (simp length-drop (omega (arith, sized)))

@@ -1,5 +1,5 @@
 -- From the check's way through an image to its verdict.
-use Rattle.std.proofs.Common.{◌≡◌, ℕ, ◌+◌, Bool, true, false, cond, eqb, List, [], length, Some, None, Ok, Err, Option, ap, ◌∙◌, ap₂}
+use Rattle.std.proofs.Common.{◌≡◌, ℕ, ◌+◌, Bool, true, false, cond, eqb, List, [], length, Some, None, Ok, Err, Option, refl, ap, ◌∙◌, ap₂}
 use Rattle.hashes.specs.Family.{Meaning}
 use Rattle.hashes.specs.KeyFault.{judged}
 use Rattle.register.specs.declared.fault.ImageFault.{ImageFault}
@@ -9,17 +9,22 @@ use Rattle.register.specs.View.{View, standing, seal, opening, key_of, pad_of}
 use Rattle.register.specs.Check.{says, faulted, verdict, checked, checked_by}
 use Rattle.register.specs.Walking.{Answers}
 
--- a buffer that opens gives a register that took no record
-judged_is : {V : Type 0} (v w : V) (o : Option ℕ) → Ok v ≡ judged w o → v ≡ w
-judged_is v w None e = cc
+-- what is given was asked for, and there is no refusal
+pub judged_is : {V : Type 0} (v w : V) (o : Option ℕ) → Ok v ≡ judged w o → (v ≡ w) × (o ≡ None)
+judged_is v w None e = (cc, refl)
 judged_is v w (Some n) e = absurd cc
 
-sized_is : {V : Type 0} (b : Bool) (v w : V) (o : Option ℕ) → Ok v ≡ cond b (judged w o) (Err 1) → v ≡ w
-sized_is true v w o e = judged_is v w o e
+sized_is : {V : Type 0} (b : Bool) (v w : V) (o : Option ℕ) → Ok v ≡ cond b (judged w o) (Err 1) → (b ≡ true) × (v ≡ w) × (o ≡ None)
+sized_is true v w o e = let j = judged_is v w o e in (refl, j.0, j.1)
 sized_is false v w o e = absurd cc
 
+-- a buffer that opens has the right length, holds a key, and gives a register that took no record
+pub opened_parts : (M : Meaning) (buffer : List ℕ) (v : View M) → Ok v ≡ opening M buffer
+    → (eqb (length buffer) (M.key_len + 8) ≡ true) × (v ≡ standing M (key_of M buffer) (pad_of M buffer) []) × (M.refusal (key_of M buffer) ≡ None)
+opened_parts M buffer v e = sized_is (eqb (length buffer) (M.key_len + 8)) v _ (M.refusal (key_of M buffer)) e
+
 pub opened_is : (M : Meaning) (buffer : List ℕ) (v : View M) → Ok v ≡ opening M buffer → v ≡ standing M (key_of M buffer) (pad_of M buffer) []
-opened_is M buffer v e = sized_is (eqb (length buffer) (M.key_len + 8)) v _ (M.refusal (key_of M buffer)) e
+opened_is M buffer v e = (opened_parts M buffer v e).1
 
 module _ (M : Meaning) (key : List ℕ) (pad : ℕ) where
   verdict_says : (o : Outcome) (s : ℕ) (w : View M) → Answers M key pad o (Ok s) w → says (cond (eqb s (seal M w)) 1 0) ≡ verdict M key pad o

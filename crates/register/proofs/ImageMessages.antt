@@ -14,8 +14,8 @@ use Rattle.register.proofs.Images.{decides_seal, field_shorter}
 decides_seal_field : (f : Field) → Decides (is_seal f) (SealField f)
 decides_seal_field (field t v) = decides_seal t v
 
-not_seal : (f : Field) → ¬ SealField f → is_seal f ≡ false
-not_seal f n = go (is_seal f) refl
+is_no_seal : (f : Field) → ¬ SealField f → is_seal f ≡ false
+is_no_seal f n = go (is_seal f) refl
   where
     go : (b : Bool) → is_seal f ≡ b → b ≡ false
     go true e = absurd (n ((decides_seal_field f).0 e))
@@ -31,7 +31,7 @@ walk (f ∷ fs) s rest h k (suc fuel) bytes l e =
     let left : List ℕ = fields_bytes fs ++ (bytes_of s ++ rest) in
     let begins : bytes ≡ bytes_of f ++ left = e ∙ append_assoc (bytes_of f) (fields_bytes fs) (bytes_of s ++ rest) in
     let n = field_shorter bytes f left begins in
-    rw (ap next_field begins ∙ next_field_reads f left, not_seal f h.0, walk fs s rest h.1 k fuel left (omega arith) refl)
+    rw (ap next_field begins ∙ next_field_reads f left, is_no_seal f h.0, walk fs s rest h.1 k fuel left (omega arith) refl)
 
 message_before : (image m : List ℕ) → BeforeSeal image m → message_of image ≡ m
 message_before image m b = walk b.fields b.seal b.rest b.others b.is_one (length image) image (omega arith) b.split ∙ sym b.same

@@ -29,16 +29,16 @@ seal_is_seal c seal h = (decides_seal 0x53 (c ∷ seal)).1 (refl, omega arith)
 
 no_field : (bytes : List ℕ) → next_field bytes ≡ None → Unframed bytes
 no_field bytes e = record {
-  no_record = λ r rest h. None_Some (sym e ∙ reads_record bytes r rest h);
-  no_seal = λ c seal rest h. None_Some (sym e ∙ reads_seal bytes c seal rest h);
+  not_record = λ r rest h. None_Some (sym e ∙ reads_record bytes r rest h);
+  not_seal = λ c seal rest h. None_Some (sym e ∙ reads_seal bytes c seal rest h);
 }
 
 other_field : (bytes : List ℕ) (f : Field) (rest : List ℕ) → next_field bytes ≡ Some (f, rest) → is_record f ≡ false → is_seal f ≡ false → Unframed bytes
 other_field bytes f rest e p q = record {
-  no_record = λ r rest' h.
+  not_record = λ r rest' h.
       let same = Some_inj (sym e ∙ reads_record bytes r rest' h) in
       true≢false (sym (field_is_record r) ∙ ap (λ x. is_record x.0) (sym same) ∙ p);
-  no_seal = λ c seal rest' h.
+  not_seal = λ c seal rest' h.
       let same = Some_inj (sym e ∙ reads_seal bytes c seal rest' h) in
       true≢false (sym (seal_is_seal c seal h.0) ∙ ap (λ x. is_seal x.0) (sym same) ∙ q);
 }
@@ -50,13 +50,13 @@ field_shorter bytes (field t v) rest e = omega (arith, simp length-append at (ap
 -- unframed bytes begin with no record's field and no seal field
 not_record : (bytes : List ℕ) (f : Field) (rest : List ℕ) → Bytes bytes → bytes ≡ bytes_of f ++ rest → Unframed bytes → is_record f ≡ true → ⊥
 not_record bytes f rest bs e u q =
-    u.no_record (record_in f) rest (e ∙ ap (λ x. bytes_of x ++ rest) (sym (record_read f (bytes_left (bytes_of f) rest (subst Bytes e bs)) q)))
+    u.not_record (record_in f) rest (e ∙ ap (λ x. bytes_of x ++ rest) (sym (record_read f (bytes_left (bytes_of f) rest (subst Bytes e bs)) q)))
 
-not_seal : (bytes : List ℕ) (f : Field) (rest : List ℕ) → bytes ≡ bytes_of f ++ rest → Unframed bytes → is_seal f ≡ true → ⊥
-not_seal bytes (field t []) rest e u q = let h = (decides_seal t []).0 q in omega arith
-not_seal bytes (field t (c ∷ seal)) rest e u q =
+no_seal_begins : (bytes : List ℕ) (f : Field) (rest : List ℕ) → bytes ≡ bytes_of f ++ rest → Unframed bytes → is_seal f ≡ true → ⊥
+no_seal_begins bytes (field t []) rest e u q = let h = (decides_seal t []).0 q in omega arith
+no_seal_begins bytes (field t (c ∷ seal)) rest e u q =
     let h = (decides_seal t (c ∷ seal)).0 q in
-    u.no_seal c seal rest (omega (arith, h.1), e ∙ ap (λ x. bytes_of (field x (c ∷ seal)) ++ rest) h.0)
+    u.not_seal c seal rest (omega (arith, h.1), e ∙ ap (λ x. bytes_of (field x (c ∷ seal)) ++ rest) h.0)
 
 module _ (code : ℕ) where
   -- at a seal field
@@ -171,7 +171,7 @@ module _ (code : ℕ) where
           at : (b d : Bool) → is_record f ≡ b → is_seal f ≡ d →
               cond b (record_outcome offset (later f p.1) (first_fault before (record_in f))) (cond d (seal_outcome code before offset (value_of f) p.1) (faulty 40 offset)) ≡ faulty 40 offset
           at true d q s = absurd (not_record bytes f p.1 bs whole u q)
-          at false true q s = absurd (not_seal bytes f p.1 whole u s)
+          at false true q s = absurd (no_seal_begins bytes f p.1 whole u s)
           at false false q s = refl
 
   -- the check comes to one outcome, the function's
@@ -277,7 +277,7 @@ framing (t ∷ h ∷ l ∷ rest) bs = go (leb n (length rest)) refl
 
     at : (b d : Bool) → leb n (length rest) ≡ true → is_record f ≡ b → is_seal f ≡ d → (Unframed all × FramingFault all) ⊎ ((Unframed all → ⊥) × (FramingFault all → ⊥))
     at true d q x y = inr (λ u. not_record all f (drop n rest) bs (field_read all f (drop n rest) bs (read q)) u x, framed q (known true d q x y))
-    at false true q x y = inr (λ u. not_seal all f (drop n rest) (field_read all f (drop n rest) bs (read q)) u y, framed q (known false true q x y))
+    at false true q x y = inr (λ u. no_seal_begins all f (drop n rest) (field_read all f (drop n rest) bs (read q)) u y, framed q (known false true q x y))
     at false false q x y = inl (other_field all f (drop n rest) (read q) x y, inr (inr (known false false q x y)))
 
     go : (b : Bool) → leb n (length rest) ≡ b → (Unframed all × FramingFault all) ⊎ ((Unframed all → ⊥) × (FramingFault all → ⊥))

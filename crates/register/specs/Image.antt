@@ -24,8 +24,8 @@ BeginsSeal bytes code seal rest = (length seal ≡ 8) × (bytes ≡ bytes_of (se
 
 -- they begin with neither
 pub record Unframed (bytes : List ℕ) : Type 0 where
-  pub no_record : (r : Record) (rest : List ℕ) → ¬ BeginsRecord bytes r rest
-  pub no_seal : (code : ℕ) (seal rest : List ℕ) → ¬ BeginsSeal bytes code seal rest
+  pub not_record : (r : Record) (rest : List ℕ) → ¬ BeginsRecord bytes r rest
+  pub not_seal : (code : ℕ) (seal rest : List ℕ) → ¬ BeginsSeal bytes code seal rest
 
 -- the lengths that a tag allows, that of the seal field among them
 abbrev pub is_known_length : ℕ → ℕ → Bool
