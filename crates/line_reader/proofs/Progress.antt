@@ -1,16 +1,19 @@
 -- Calls made one after the other, as a run, and their replies in places.
-use Rattle.std.proofs.Common.{◌≡◌, ℕ, suc, ◌+◌, ◌<◌, List, [], ◌∷◌, ◌++◌, map, length, get_or, take, set, sym, refl, ap, ◌∙◌, subst, arith, length-take-le}
+use Rattle.std.proofs.Common.{◌≡◌, ℕ, suc, ◌+◌, ◌<◌, List, [], ◌∷◌, ◌++◌, map, length, get_or, take, set, Ok, sym, refl, ap, ◌∙◌, subst, arith, length-take-le}
 use lib.ListN.{length-map}
 use Rattle.std.proofs.lemmas.List.{map_push, take_more}
 use Rattle.hashes.specs.Family.{Meaning}
+use Rattle.hashes.specs.KeyFault.{Answer, answered}
 use Rattle.register.specs.Inputs.{input_after, input_reply}
 use Rattle.register.specs.Records.{Record}
 use Rattle.register.specs.Run.{Input, Reply, run, step}
-use Rattle.register.specs.View.{View, standing}
+use Rattle.register.specs.View.{View, key_of, opening, pad_of, seal, sealed, standing}
+use Rattle.register.proofs.Checked.{opened_is}
 use Rattle.register.proofs.Steps.{input_leaves, input_replies}
 use Rattle.line_reader.specs.declared.calls.Call.{Call}
 use Rattle.line_reader.specs.Calls.{call_input}
-use Rattle.line_reader.specs.Handover.{placed, records_of, replies_of}
+use Rattle.line_reader.specs.Handover.{placed, records_of, replies_if, replies_of, sealing}
+use Rattle.line_reader.specs.Sending.{MakesCalls}
 
 -- ---- places
 
@@ -82,3 +85,15 @@ progress_next M v w u calls i d places later next a h so_far replies leaves puts
   where
     so_long : length (take i calls) ≡ i
     so_long = length-take-le i calls (omega arith)
+
+-- ---- from a register that opened
+
+module _ (M : Meaning) (buffer : List ℕ) (calls : List Call) (v w : View M) (places later : List Reply) (opens : Ok v ≡ opening M buffer) (made : MakesCalls M v w calls places later) where
+  end : (w ≡ standing M (key_of M buffer) (pad_of M buffer) (records_of calls)) × (later ≡ placed (replies_of calls) places)
+  end = made.makes (key_of M buffer) (pad_of M buffer) (opened_is M buffer v opens)
+
+  pub calls_sealed : (s : ℕ) → s ≡ seal M w → Ok s ≡ sealing M buffer calls
+  calls_sealed s e = ap Ok (e ∙ ap (seal M) end.0) ∙ ap (answered (λ _. sealed M (key_of M buffer) (pad_of M buffer) (records_of calls))) opens
+
+  pub calls_replied : later ≡ placed (replies_if (opening M buffer) calls) places
+  calls_replied = end.1 ∙ ap (λ (o : Answer (View M)). placed (replies_if o calls) places) opens

@@ -1,13 +1,20 @@
--- What sending the lines of a text to a new register leaves.
+-- What making calls on a new register, or sending it the lines of a text, leaves.
 use Rattle.std.specs.Prelude.{◌≡◌, ℕ, List, [], length, replicate, Ok, Err, Result}
 use Rattle.hashes.specs.Family.{Meaning}
 use Rattle.register.specs.Records.{Record}
+use Rattle.register.specs.Run.{Reply}
 use Rattle.register.specs.View.{View, standing}
 use Rattle.register.specs.Writing.{Holds}
+use Rattle.line_reader.specs.declared.calls.Call.{Call}
 use Rattle.line_reader.specs.declared.fault.MakeFault.{MakeFault}
+use Rattle.line_reader.specs.Handover.{placed, records_of, replies_of}
 use Rattle.line_reader.specs.MakeFaults.{number_of_make_fault, place_of_make_fault}
 use Rattle.line_reader.specs.Making.{Making, all_taken, sent, stopped}
 use Rattle.line_reader.specs.Texts.{lines_of}
+
+-- From a register v the calls lead to w, and from the places as they were to those that hold the replies.
+pub record MakesCalls (M : Meaning) (v w : View M) (calls : List Call) (places later : List Reply) : Type 0 where
+  pub makes : (key : List ℕ) (pad : ℕ) → v ≡ standing M key pad [] → (w ≡ standing M key pad (records_of calls)) × (later ≡ placed (replies_of calls) places)
 
 -- All lines are taken, the register stands for their records, and the output holds their message; or a line is refused.
 abbrev pub LinesSent : (M : Meaning) → List ℕ → ℕ → List ℕ → Result (Unit {0}) MakeFault → View M → ℕ → List ℕ → Type 0

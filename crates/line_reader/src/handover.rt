@@ -2,6 +2,7 @@
 ghost use Rattle.hashes.specs.KeyFault.{opened};
 ghost use Rattle.line_reader.specs.Calls.{call_input, line_reply};
 ghost use Rattle.line_reader.specs.Handover.{HandoverPromise, placed, replies_if, sealing};
+ghost use Rattle.line_reader.specs.Sending.{MakesCalls};
 ghost use Rattle.register.specs.Inputs.{input_after, input_reply};
 ghost use Rattle.register.specs.Values.{view};
 ghost use Rattle.register.specs.View.{opening};
@@ -36,8 +37,24 @@ fn put_answer(answers: &mut [Result<usize, LineFault>], i: usize, answer: Result
     }
 }
 
+// Makes calls in order. The answers go into the places in order, as far as there are places.
+fn serve_all<F: Family>(
+    register: &mut Register<F>,
+    calls: &[Call],
+    answers: &mut [Result<usize, LineFault>],
+)
+    ensures { MakesCalls F.meaning (view F.meaning F.state register.old) (view F.meaning F.state register.new) calls.now (map line_reply answers.old) (map line_reply answers.new) }
+{
+    // Not a `zip`, which would stop at the last place.
+    for (i, call) in calls.iter().enumerate() {
+        let answer = serve(register, *call);
+        put_answer(answers, i, answer);
+    }
+}
+
 // Opens a register by a key buffer, which it leaves zero, makes the calls in order, and closes it: the seal. The answers go into the
 // places in order, as far as there are places.
+#[tactic(auto, using(crate::proofs::Progress::calls_sealed, crate::proofs::Progress::calls_replied))]
 pub fn seal_calls<F: Family>(
     buffer: &mut [u8],
     calls: &[Call],
@@ -48,11 +65,7 @@ pub fn seal_calls<F: Family>(
     ensures cleared { buffer.new ≡ replicate (length buffer.old) 0 }
 {
     let mut register = Register::<F>::open(buffer)?;
-    // Not a `zip`, which would stop at the last place.
-    for (i, call) in calls.iter().enumerate() {
-        let answer = serve(&mut register, *call);
-        put_answer(answers, i, answer);
-    }
+    serve_all(&mut register, calls, answers);
     Ok(register.close())
 }
 

@@ -3,6 +3,7 @@ ghost use Rattle.register.specs.Known.{name_byte, name_fault, range_fault, zone_
 ghost use Rattle.register.specs.Known.{within as between};
 ghost use Rattle.register.specs.Records.{field_length};
 ghost use Rattle.register.specs.Values.{record_of};
+ghost use Rattle.std.specs.List.{list_all};
 ghost use Rattle.std.specs.Prelude.{◌≡◌, ◌≤◌};
 
 use crate::fault::RecordFault;
@@ -66,11 +67,18 @@ fn name_byte(b: u8) -> bool
     matches!(b, 0x20..=0x7E | 0x0A)
 }
 
+// Whether a panel can show each byte of a name.
+fn name_bytes(name: &[u8]) -> bool
+    ensures { result ≡ list_all name_byte name.now }
+{
+    name.iter().all(|b| name_byte(*b))
+}
+
 // Whether a panel can show a name.
 fn zone_name(name: &[u8]) -> bool
     ensures { result ≡ zone_name name.now }
 {
-    (1..=LONGEST_NAME).contains(&name.len()) && name.iter().all(|b| name_byte(*b))
+    (1..=LONGEST_NAME).contains(&name.len()) && name_bytes(name)
 }
 
 // Whether a record has a name that a panel cannot show.

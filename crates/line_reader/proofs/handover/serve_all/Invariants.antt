@@ -2,7 +2,7 @@ use Rattle.std.proofs.Common.{map, take}
 use Rattle.register.specs.Values.{view}
 use Rattle.line_reader.specs.Calls.{line_reply}
 use Rattle.line_reader.proofs.Progress.{Progress}
-use Rattle.line_reader.proofs.handover.seal_calls.Given as goal
+use Rattle.line_reader.proofs.handover.serve_all.Given as goal
 
 -- the calls before place i have been made
 abbrev pub invariant-loop-i : goal.invariant-loop-i
