@@ -32,19 +32,6 @@ struct Multiples {
 }
 
 impl Multiples {
-    // Each row has the multiples of a power times the point, and the next row those of x^8 times as much.
-    fn new(point: u64) -> Multiples
-        ensures { result.point ≡ point }
-    {
-        let mut rows = [[0; 16]; 8];
-        let mut power = point;
-        for row in &mut rows {
-            *row = row_of(power);
-            power = byte_up(power);
-        }
-        Multiples { point, rows }
-    }
-
     // v times the point: one lookup for each half byte of v. The upper ones are added up as if they were the lower ones, and moved up at the end.
     fn times(&self, v: u64) -> u64
         ensures { result ≡ times_mod modulus v self.now.point }
@@ -182,12 +169,19 @@ impl Model for Evaluation {
 }
 
 impl Evaluation {
-    // No byte has been taken in yet. Any point will do.
+    // No byte has been taken in yet. Any point will do. Each row has the multiples of a power times the point, and the next row those of x^8 times as
+    // much. They are filled here and not in a function of `Multiples`, which would copy the table once more.
     fn new(point: u64) -> Evaluation
         ensures { result ≡ evaluation_state point 1 [] }
     {
+        let mut rows = [[0; 16]; 8];
+        let mut power = point;
+        for row in &mut rows {
+            *row = row_of(power);
+            power = byte_up(power);
+        }
         Evaluation {
-            multiples: Multiples::new(point),
+            multiples: Multiples { point, rows },
             value: 1,
             pending: Pending::new(),
         }

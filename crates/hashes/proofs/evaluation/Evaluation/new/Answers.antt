@@ -1,6 +1,6 @@
 use Rattle.std.proofs.Common.{◌∙◌, refl, arith, length-set}
 use Rattle.hashes.proofs.EvaluationSteps.{first_power, next_power, row_at, multiples_rows_more}
-use Rattle.hashes.proofs.evaluation.Multiples.new.Goals as goal
+use Rattle.hashes.proofs.evaluation.Evaluation.new.Goals as goal
 
 pub loop-row-init : goal.loop-row-init
 loop-row-init c = record { sized = refl; power = first_power c.args.point c.ranges.point.fits; rows = λ i h. absurd (omega arith) }

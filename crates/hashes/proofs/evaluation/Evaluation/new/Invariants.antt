@@ -1,6 +1,6 @@
 use Rattle.std.proofs.Common.{◌≡◌, length}
 use Rattle.hashes.proofs.EvaluationSteps.{Power, MultiplesRows}
-use Rattle.hashes.proofs.evaluation.Multiples.new.Given as goal
+use Rattle.hashes.proofs.evaluation.Evaluation.new.Given as goal
 
 -- the rows so far are filled, and the power is that of the next
 abbrev pub invariant-loop-row : goal.invariant-loop-row
