@@ -38,13 +38,13 @@ abbrev pub capped : ℕ → ℕ → ℕ
 capped bits n = min n (2 ^ bits - 1)
 
 -- a line and a column, 24 bits each
-abbrev pub line_and_column : ℕ × ℕ → ℕ
-line_and_column place = capped 24 place.0 * 2 ^ 24 + capped 24 place.1
+abbrev pub packed_line_and_column : ℕ × ℕ → ℕ
+packed_line_and_column place = capped 24 place.0 * 2 ^ 24 + capped 24 place.1
 
 -- the length of an image, or a refusal with line and column
 abbrev pub packed_length : Result ℕ (ℕ × (ℕ × ℕ)) → ℕ
 packed_length (Ok n) = n
-packed_length (Err e) = packed e.0 (line_and_column e.1)
+packed_length (Err e) = packed e.0 (packed_line_and_column e.1)
 
 -- a verdict, or a refusal with its offset
 abbrev pub packed_verdict : Verdict → ℕ

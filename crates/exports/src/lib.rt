@@ -4,7 +4,7 @@
 #![tactic(auto)]
 
 ghost use Rattle.std.specs.Prelude.{◌≡◌, ◌+◌, ◌^◌, ◌<◌, length, replicate, if◌then◌else◌};
-ghost use Rattle.exports.specs.Packed.{by_family, hash_or_zero, line_and_column, made_by_code, no_image, packed, packed_length, packed_seal, packed_verdict, refusal_number, seal_after};
+ghost use Rattle.exports.specs.Packed.{by_family, hash_or_zero, packed_line_and_column, made_by_code, no_image, packed, packed_length, packed_seal, packed_verdict, refusal_number, seal_after};
 ghost use Rattle.hashes.specs.Irreducible.{irreducible_by_trial};
 ghost use Rattle.hashes.specs.KeyFault.{family_opening, hashing, opened};
 ghost use Rattle.line_reader.specs.SiteInput.{input_answer};
@@ -107,8 +107,8 @@ pub extern "C" fn waq_hash(code: u8, gathered: u8, key: &[u8], message: &[u8], p
 }
 
 // A line and a column in 48 bits.
-fn place_bits(place: (usize, usize)) -> u64
-    ensures value { result ≡ line_and_column place }
+fn line_and_column_bits(place: (usize, usize)) -> u64
+    ensures value { result ≡ packed_line_and_column place }
     ensures low { result < 2 ^ 48 }
 {
     let (line, column) = place;
@@ -128,7 +128,7 @@ fn length_bits(answer: Result<usize, Refusal>) -> u64
     ensures { result ≡ packed_length answer }
 {
     answer.map_or_else(
-        |(number, place)| refusal_bits(number, place_bits(place)),
+        |(number, place)| refusal_bits(number, line_and_column_bits(place)),
         |n| n as u64,
     )
 }

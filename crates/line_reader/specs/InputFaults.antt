@@ -3,7 +3,7 @@ use Rattle.std.specs.Prelude.{ℕ, Ok, Err, Result}
 use Rattle.line_reader.specs.declared.fault.InputFault.{InputFault}
 use Rattle.line_reader.specs.declared.fault.InputFault.TheVariants.{Code, Length, Make}
 use Rattle.line_reader.specs.declared.fault.MakeFault.{MakeFault}
-use Rattle.line_reader.specs.MakeFaults.{number_of_make_fault, place_of_make_fault}
+use Rattle.line_reader.specs.MakeFaults.{number_of_make_fault, line_and_column_of_make_fault}
 use Rattle.line_reader.specs.SiteInput.{InputAnswer}
 
 abbrev pub number_of_input_fault : InputFault → ℕ
@@ -12,16 +12,16 @@ number_of_input_fault Length = 5
 number_of_input_fault (Make f) = number_of_make_fault f
 
 -- the line, from 1, and the column; both are 0 where no line is at fault
-abbrev pub place_of_input_fault : InputFault → ℕ × ℕ
-place_of_input_fault Code = (0, 0)
-place_of_input_fault Length = (0, 0)
-place_of_input_fault (Make f) = place_of_make_fault f
+abbrev pub line_and_column_of_input_fault : InputFault → ℕ × ℕ
+line_and_column_of_input_fault Code = (0, 0)
+line_and_column_of_input_fault Length = (0, 0)
+line_and_column_of_input_fault (Make f) = line_and_column_of_make_fault f
 
 -- an answer by its numbers
 abbrev pub seal_answer : Result (ℕ × ℕ) InputFault → InputAnswer
 seal_answer (Ok s) = Ok s
-seal_answer (Err f) = Err (number_of_input_fault f, place_of_input_fault f)
+seal_answer (Err f) = Err (number_of_input_fault f, line_and_column_of_input_fault f)
 
 abbrev pub text_answer : Result (ℕ × ℕ) MakeFault → InputAnswer
 text_answer (Ok s) = Ok s
-text_answer (Err f) = Err (number_of_make_fault f, place_of_make_fault f)
+text_answer (Err f) = Err (number_of_make_fault f, line_and_column_of_make_fault f)

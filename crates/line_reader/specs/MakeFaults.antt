@@ -11,7 +11,7 @@ number_of_make_fault (Line f line) = number_of_line_fault f
 number_of_make_fault Room = 50
 
 -- the line, from 1, and the column; both are 0 where no line is at fault
-abbrev pub place_of_make_fault : MakeFault → ℕ × ℕ
-place_of_make_fault (Key f) = (0, 0)
-place_of_make_fault (Line f line) = (line, column_of_line_fault f)
-place_of_make_fault Room = (0, 0)
+abbrev pub line_and_column_of_make_fault : MakeFault → ℕ × ℕ
+line_and_column_of_make_fault (Key f) = (0, 0)
+line_and_column_of_make_fault (Line f line) = (line, column_of_line_fault f)
+line_and_column_of_make_fault Room = (0, 0)

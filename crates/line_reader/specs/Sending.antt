@@ -8,7 +8,7 @@ use Rattle.register.specs.Writing.{Holds}
 use Rattle.line_reader.specs.declared.calls.Call.{Call}
 use Rattle.line_reader.specs.declared.fault.MakeFault.{MakeFault}
 use Rattle.line_reader.specs.Handover.{placed, records_of, replies_of}
-use Rattle.line_reader.specs.MakeFaults.{number_of_make_fault, place_of_make_fault}
+use Rattle.line_reader.specs.MakeFaults.{number_of_make_fault, line_and_column_of_make_fault}
 use Rattle.line_reader.specs.Making.{Making, all_taken, sent, stopped}
 use Rattle.line_reader.specs.Texts.{lines_of}
 
@@ -20,7 +20,7 @@ pub record MakesCalls (M : Meaning) (v w : View M) (calls : List Call) (places l
 abbrev pub LinesSent : (M : Meaning) → List ℕ → ℕ → List ℕ → Result (Unit {0}) MakeFault → View M → ℕ → List ℕ → Type 0
 LinesSent M key pad text (Ok u) w room out =
     (rs : List Record) × (sent [] (lines_of text) 1 ≡ all_taken rs) × (w ≡ standing M key pad rs) × Holds room rs out
-LinesSent M key pad text (Err f) w room out = sent [] (lines_of text) 1 ≡ stopped (number_of_make_fault f) (place_of_make_fault f).0 (place_of_make_fault f).1
+LinesSent M key pad text (Err f) w room out = sent [] (lines_of text) 1 ≡ stopped (number_of_make_fault f) (line_and_column_of_make_fault f).0 (line_and_column_of_make_fault f).1
 
 -- From a register v and an output of zeros to a register w and the output later.
 pub record SendsLines (M : Meaning) (v : View M) (text : List ℕ) (r : Result (Unit {0}) MakeFault) (w : View M) (out later : List ℕ) : Type 0 where
@@ -29,4 +29,4 @@ pub record SendsLines (M : Meaning) (v : View M) (text : List ℕ) (r : Result (
 -- an answer by its numbers, and the output as it is once a refusal has wiped it
 abbrev pub wiped : Result ℕ MakeFault → List ℕ → Making
 wiped (Ok n) out = (Ok n, out)
-wiped (Err f) out = (Err (number_of_make_fault f, place_of_make_fault f), replicate (length out) 0)
+wiped (Err f) out = (Err (number_of_make_fault f, line_and_column_of_make_fault f), replicate (length out) 0)

@@ -1,8 +1,8 @@
 // Why a line, the making of an image, or an input of the program is refused. Each fault has a number.
 ghost use Rattle.line_reader.specs.Calls.{column_of_line_fault, number_of_line_fault};
 ghost use Rattle.line_reader.specs.Numbers.{number_of_read_fault};
-ghost use Rattle.line_reader.specs.InputFaults.{number_of_input_fault, place_of_input_fault};
-ghost use Rattle.line_reader.specs.MakeFaults.{number_of_make_fault, place_of_make_fault};
+ghost use Rattle.line_reader.specs.InputFaults.{number_of_input_fault, line_and_column_of_input_fault};
+ghost use Rattle.line_reader.specs.MakeFaults.{number_of_make_fault, line_and_column_of_make_fault};
 ghost use Rattle.line_reader.specs.declared.fault.InputFault.TheVariants.{Make};
 ghost use Rattle.line_reader.specs.declared.fault.LineFault.TheVariants.{Read, Record};
 ghost use Rattle.line_reader.specs.declared.fault.MakeFault.TheVariants.{Key};
@@ -102,8 +102,8 @@ impl MakeFault {
     }
 
     // The line and the column; plain numbers, so 0 and 0 where no line is at fault.
-    pub fn place(&self) -> (usize, usize)
-        ensures { result ≡ place_of_make_fault self.now }
+    pub fn line_and_column(&self) -> (usize, usize)
+        ensures { result ≡ line_and_column_of_make_fault self.now }
     {
         match self {
             MakeFault::Line(fault, line) => (*line, fault.column()),
@@ -144,11 +144,11 @@ impl InputFault {
     }
 
     // The line and the column; plain numbers, so 0 and 0 where no line is at fault.
-    pub fn place(&self) -> (usize, usize)
-        ensures { result ≡ place_of_input_fault self.now }
+    pub fn line_and_column(&self) -> (usize, usize)
+        ensures { result ≡ line_and_column_of_input_fault self.now }
     {
         match self {
-            InputFault::Make(fault) => fault.place(),
+            InputFault::Make(fault) => fault.line_and_column(),
             _ => (0, 0),
         }
     }

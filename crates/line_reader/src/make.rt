@@ -130,5 +130,5 @@ pub fn make<F: Family>(text: &[u8], buffer: &mut [u8], out: &mut [u8]) -> Result
     if made.is_err() {
         out.fill(0);
     }
-    made.map_err(|fault| (fault.number(), fault.place()))
+    made.map_err(|fault| (fault.number(), fault.line_and_column()))
 }

@@ -74,5 +74,5 @@ pub fn seal_input(input: &mut [u8]) -> Result<(usize, u64), Refusal>
 {
     let sealed = seal_parts(input);
     input.fill(0);
-    sealed.map_err(|fault| (fault.number(), fault.place()))
+    sealed.map_err(|fault| (fault.number(), fault.line_and_column()))
 }
