@@ -11,3 +11,4 @@ pub mod Absorbed
 pub mod EvaluationSteps
 pub mod PendingBytes
 pub mod KeyTest
+pub mod FamilyExamples

@@ -1,5 +1,5 @@
 -- Tables of additive functions: filled by doubling, and read by half bytes.
-use Rattle.std.proofs.Common.{◌≡◌, ℕ, zero, suc, ◌+◌, ◌-◌, ◌*◌, ◌/◌, ◌%◌, ◌^◌, ◌<◌, ◌≤◌, ◌⊎◌, inl, inr, List, [], get_or, replicate, refl, sym, ap, ap₂, ◌∙◌, arith, mod-lt, zero-lt-suc, one-mul, pow_mono, pow_pos, pow-add, mul-add, mul-one, add_comm}
+use Rattle.std.proofs.Common.{◌≡◌, ℕ, ◌+◌, ◌-◌, ◌*◌, ◌/◌, ◌%◌, ◌^◌, ◌<◌, ◌≤◌, ◌⊎◌, inl, inr, List, [], get_or, sym, ap, ap₂, ◌∙◌, arith, mod-lt, zero-lt-suc, one-mul, pow_mono, pow_pos, pow-add, mul-add, mul-one, add_comm}
 use Rattle.std.proofs.lemmas.Bool.{cases_lt}
 use native.Mathlib.Nat.{div-div-eq-div-mul, mod-one}
 use lib.Bits.{bit_xor, xor_comm, xor_self, xor_shifted}
@@ -15,13 +15,11 @@ additive_zero f add = add 0 0 ∙ xor_self (f 0)
 abbrev pub Filled : (ℕ → ℕ) → ℕ → List ℕ → Type 0
 Filled f n words = (t : ℕ) → t < n → get_or words t 0 ≡ f t
 
--- a table of zeros is filled at zero
-pub filled_one : (f : ℕ → ℕ) → Additive f → (n : ℕ) → Filled f 1 (replicate {A = ℕ} n 0)
-filled_one f add n t h = let z : t ≡ 0 = omega arith in rw z (first n ∙ sym (additive_zero f add))
-  where
-    first : (n : ℕ) → get_or (replicate {A = ℕ} n 0) 0 0 ≡ 0
-    first zero = refl
-    first (suc n) = refl
+-- a table whose first entry is zero is filled at zero
+pub filled_one : (f : ℕ → ℕ) → Additive f → (words : List ℕ) → get_or words 0 0 ≡ 0
+    → Filled f 1 words
+filled_one f add words first t h =
+    let z : t ≡ 0 = omega arith in rw z (first ∙ sym (additive_zero f add))
 
 -- a power of x added to a number below it
 with_power : (f : ℕ → ℕ) → Additive f → (k t : ℕ) → t < 2 ^ k → f (2 ^ k + t) ≡ bit_xor (f t) (f (2 ^ k))

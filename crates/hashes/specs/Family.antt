@@ -53,3 +53,7 @@ pub record Lawful (M : Meaning) : Type 0 where
   pub short : M.key_len ≤ 64
   pub words : (key m : List ℕ) → Key M key → Bytes m → hash M key m < 2 ^ 64
   pub bounded : Bounded M
+
+-- how many bytes a gather holds back at most
+abbrev pub gather_room : ℕ
+gather_room = 64

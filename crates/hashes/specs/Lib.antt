@@ -10,6 +10,7 @@ pub mod KeyFault
 pub mod Division
 pub mod Toeplitz
 pub mod Evaluation
+pub mod FamilyExamples
 -- From here on lemmas, which need no belief: the proof of a family's law may name only what stands in this folder. The definitions among them
 -- are cited by contracts of private functions alone.
 -- lists

@@ -6,7 +6,7 @@ ghost use Rattle.hashes.specs.DivisionFamily.{division_lawful};
 use crate::family::Family;
 use crate::irreducible::is_irreducible;
 use crate::key_fault::KeyFault;
-use crate::polynomial::multiples;
+use crate::polynomial::fill_multiples;
 use crate::word::word_of;
 
 // The family's code, and how many bytes a key has.
@@ -29,7 +29,8 @@ impl Table {
     fn new(p: u64) -> Table
         ensures { result.p ≡ p }
     {
-        let words = multiples(p, p);
+        let mut words = [0u64; 256];
+        fill_multiples(&mut words, p, p);
         Table { p, words }
     }
 

@@ -10,7 +10,7 @@ ghost use Rattle.hashes.specs.EvaluationFamily.{evaluation_lawful};
 
 use crate::family::Family;
 use crate::key_fault::KeyFault;
-use crate::polynomial::multiples;
+use crate::polynomial::fill_multiples;
 use crate::word::word_of;
 use std::marker::Model;
 
@@ -55,11 +55,11 @@ impl Multiples {
     }
 }
 
-// The products of the half bytes and a.
-fn row_of(a: u64) -> [u64; 16]
-    ensures { (d : ℕ) → d < 16 → slice_index result d ≡ times_mod modulus d a }
+// Fills a row with the products of the half bytes and a.
+fn fill_row(row: &mut [u64; 16], a: u64)
+    ensures { (d : ℕ) → d < 16 → slice_index row.new d ≡ times_mod modulus d a }
 {
-    multiples(a, LOW_WORD)
+    fill_multiples(row, a, LOW_WORD);
 }
 
 // d times the low word of the modulus at place d: what four bits that go out at the top come in as.
@@ -177,7 +177,7 @@ impl Evaluation {
         let mut rows = [[0; 16]; 8];
         let mut power = point;
         for row in &mut rows {
-            *row = row_of(power);
+            fill_row(row, power);
             power = byte_up(power);
         }
         Evaluation {

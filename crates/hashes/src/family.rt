@@ -1,5 +1,6 @@
 // The interface of a family of keyed hashes. Its ghost members say what the family computes; its law says how rarely messages agree.
 ghost use Rattle.hashes.specs.Family.{Lawful, Meaning, absorbed};
+ghost use Rattle.hashes.specs.FamilyExamples.{FamilyExamples};
 ghost use Rattle.hashes.specs.KeyFault.{family_opening, opened};
 ghost use Rattle.std.specs.Prelude.{◌≡◌};
 
@@ -38,3 +39,9 @@ pub trait Family: Sized + Drop {
     // What each `impl` proves of its meaning.
     ghost lawful: { Lawful meaning };
 }
+
+// Codes, lengths of keys, bounds and a modulus, by numbers that were worked by hand.
+#[tactic(auto, using(crate::proofs::FamilyExamples::family_examples))]
+pub fn family_examples()
+    ensures { FamilyExamples }
+{}

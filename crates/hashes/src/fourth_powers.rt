@@ -5,7 +5,7 @@ ghost use Rattle.hashes.specs.Division.{division};
 ghost use Rattle.hashes.specs.Frobenius.{frobenius};
 ghost use Rattle.hashes.specs.Polynomial.{times_mod};
 
-use crate::polynomial::{by_half_bytes, extend_sums, multiples};
+use crate::polynomial::{by_half_bytes, extend_sums, fill_multiples};
 
 // For each half byte d, d x^64 modulo x^64 + p.
 #[derive(Drop)]
@@ -22,7 +22,8 @@ impl Carries {
     fn new(p: u64) -> Carries
         ensures { result.p ≡ p }
     {
-        let words = multiples(p, p);
+        let mut words = [0; 16];
+        fill_multiples(&mut words, p, p);
         Carries { p, words }
     }
 
@@ -40,7 +41,8 @@ impl Carries {
     {
         let mut row = [0; 16];
         let mut power = a;
-        // As in `multiples`, by another step: to hand that over would take a closure that both have to describe.
+        // As in `fill_multiples`, by another step: to hand that over would take a closure that both
+        // have to describe.
         for k in 0..4u32 {
             extend_sums(&mut row, 1 << k, power);
             power = self.half_byte_up(power);

@@ -1,6 +1,6 @@
 // Small parts cost a family more than large ones. A gather around it keeps at most 64 bytes to itself and passes them on in one part.
-ghost use Rattle.std.specs.Prelude.{◌≡◌, []};
-ghost use Rattle.hashes.specs.Family.{absorbed};
+ghost use Rattle.std.specs.Prelude.{◌≡◌, ◌≤◌, [], length};
+ghost use Rattle.hashes.specs.Family.{absorbed, gather_room};
 
 use crate::family::Family;
 use crate::held::Held;
@@ -13,6 +13,7 @@ const ROOM: usize = 64;
 pub struct Gather<F: Family> {
     below: F,
     held: Held<ROOM>,
+    ghost within: { length held ≤ gather_room },
 }
 
 impl<F: Family> Family for Gather<F> {

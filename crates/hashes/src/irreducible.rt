@@ -1,5 +1,6 @@
 // The exact test of a key polynomial, and the fields that irreducible polynomials give.
 ghost use Rattle.std.specs.Prelude.{◌≡◌, ◌+◌, ◌^◌, ◌==◌, ◌||◌, Decides};
+ghost use Rattle.hashes.specs.Evaluation.{modulus};
 ghost use Rattle.hashes.specs.Field.{ResidueFields};
 ghost use Rattle.hashes.specs.Frobenius.{frobenius};
 ghost use Rattle.hashes.specs.Irreducible.{Irreducible, irreducible_by_trial};
@@ -48,5 +49,5 @@ fn powers_of_x(p: u64) -> (u64, u64)
 #[tactic(auto, using(crate::proofs::FieldLaws::residue_fields, crate::specs::Modulus::modulus_irreducible))]
 pub fn residue_fields()
     ensures fields { ResidueFields }
-    ensures modulus { Irreducible (2 ^ 64 + 0x1B) }
+    ensures modulus { Irreducible modulus }
 {}

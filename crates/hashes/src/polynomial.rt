@@ -12,26 +12,27 @@ fn double(a: u64, w: u64) -> u64
     (a << 1) ^ ((a >> 63) * w)
 }
 
-// The products of the numbers below N and a, modulo x^64 + w, where N is a power of two: each turn doubles how many stand.
-pub(crate) fn multiples<const N: usize>(a: u64, w: u64) -> [u64; N]
+// Fills each word with the product of its place and a, modulo x^64 + w. The count of words is a
+// power of two, since each turn doubles how many are filled.
+pub(crate) fn fill_multiples<const N: usize>(words: &mut [u64; N], a: u64, w: u64)
     requires { IsPowerOfTwo N }
-    ensures { (t : ℕ) → t < N → slice_index result t ≡ times_mod (2 ^ 64 + w) t a }
+    ensures { (t : ℕ) → t < N → slice_index words.new t ≡ times_mod (2 ^ 64 + w) t a }
 {
-    let mut result = [0; N];
+    words[0] = 0;
     let mut power = a;
     // By exponent: `successors` would hand out the same places and powers, and the words would still be extended at each.
     for k in 0..N.ilog2() {
-        extend_sums(&mut result, 1 << k, power);
+        extend_sums(words, 1 << k, power);
         power = double(power, w);
     }
-    result
 }
 
-// Behind the first `half` words, the same words with b added to each.
+// Behind the first `half` words, the same words with b added to each. What stands after them stays.
 pub(crate) fn extend_sums(words: &mut [u64], half: usize, b: u64)
     requires { half + half ≤ length words.old }
     ensures below { (t : ℕ) → t < half → slice_index words.new t ≡ slice_index words.old t }
     ensures above { (t : ℕ) → t < half → slice_index words.new (half + t) ≡ bit_xor (slice_index words.old t) b }
+    ensures rest { (t : ℕ) → half + half ≤ t → slice_index words.new t ≡ slice_index words.old t }
     ensures len { length words.new ≡ length words.old }
 {
     words.copy_within(..half, half);

@@ -15,5 +15,5 @@ loop-row-preserved c =
       power = next_power a j c.loop-row.power c.byte_up-power.result power c.byte_up-power.ensures;
       rows =
           multiples_rows_more a j c.loop-row.row-items _ (omega (arith, c.loop-row.invariant.sized, c.loop-row-test.true))
-          (row_at a j c.loop-row.power _ power c.row_of.ensures) c.loop-row.invariant.rows;
+          (row_at a j c.loop-row.power _ power c.fill_row.ensures) c.loop-row.invariant.rows;
     }

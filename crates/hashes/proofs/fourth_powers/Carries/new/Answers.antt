@@ -1,5 +1,5 @@
 use Rattle.std.proofs.Common.{refl, arith}
 use Rattle.hashes.proofs.fourth_powers.Carries.new.Goals as goal
 
-pub multiples-words-requires : goal.multiples-words-requires
-multiples-words-requires c = (omega arith, (4, refl))
+pub fill_multiples-requires : goal.fill_multiples-requires
+fill_multiples-requires c = (omega arith, (4, refl))

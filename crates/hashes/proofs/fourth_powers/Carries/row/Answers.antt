@@ -1,4 +1,4 @@
-use Rattle.std.proofs.Common.{◌≡◌, ◌+◌, ◌*◌, ◌%◌, ◌^◌, ap, ◌∙◌, arith}
+use Rattle.std.proofs.Common.{◌≡◌, ◌+◌, ◌*◌, ◌%◌, ◌^◌, replicate, refl, ap, ◌∙◌, arith}
 use Rattle.hashes.specs.Frobenius.{frobenius}
 use Rattle.hashes.specs.Polynomial.{times_mod}
 use Rattle.hashes.specs.Words.{word_pos}
@@ -9,7 +9,9 @@ use Rattle.hashes.proofs.fourth_powers.Carries.row.Goals as goal
 pub loop-k-init : goal.loop-k-init
 loop-k-init c =
     let P = 2 ^ 64 + c.args.self.now.p in record {
-      filled = filled_one (λ d. times_mod P (frobenius P 2 d) c.args.a) (entry_add P (word_pos 64 c.args.self.now.p) c.args.a) 16;
+      filled =
+          filled_one (λ d. times_mod P (frobenius P 2 d) c.args.a)
+          (entry_add P (word_pos 64 c.args.self.now.p) c.args.a) (replicate 16 0) refl;
       power = word_entry_one 64 c.args.self.now.p c.args.self.now.fits c.args.a (omega arith) c.ranges.a.fits;
     }
 

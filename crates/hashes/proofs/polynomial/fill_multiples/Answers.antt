@@ -1,17 +1,24 @@
-use Rattle.std.proofs.Common.{◌≡◌, ℕ, ◌+◌, ◌*◌, ◌%◌, ◌^◌, ◌∙◌, arith}
-use Rattle.std.proofs.lemmas.List.{length-replicate}
+use Rattle.std.proofs.Common.{◌≡◌, ◌+◌, ◌*◌, ◌%◌, ◌^◌, ◌<◌, ◌∙◌, length, length-set, pow_pos, set, arith}
+use Rattle.std.proofs.lemmas.List.{get_or-set_same}
 use Rattle.hashes.specs.Polynomial.{times_mod}
 use Rattle.hashes.specs.Words.{word_pos}
 use Rattle.hashes.proofs.Multiples.{multiple_add, multiple_one, power_doubled}
 use Rattle.hashes.proofs.Sums.{filled_one, filled_twice, room_for_double, whole_power}
-use Rattle.hashes.proofs.polynomial.multiples.Goals as goal
+use Rattle.hashes.proofs.polynomial.fill_multiples.Goals as goal
 
 pub loop-k-init : goal.loop-k-init
-loop-k-init g c = record {
-  len = length-replicate {A = ℕ} g.row.N 0;
-  filled = filled_one (λ t. times_mod (2 ^ 64 + c.args.w) t c.args.a) (multiple_add (2 ^ 64 + c.args.w) (word_pos 64 c.args.w) c.args.a) g.row.N;
-  power = multiple_one 64 c.args.w c.args.a c.ranges.w.fits c.ranges.a.fits;
-}
+loop-k-init g c =
+    let words = c.args.words.now in
+    let some : 0 < length words =
+    omega (arith, c.told-words, pow_pos c.ilog2-k-end.result, c.ilog2-k-end.ensures.power_le) in
+    record {
+      len = length-set words 0 0 ∙ c.told-words;
+      filled =
+          filled_one (λ t. times_mod (2 ^ 64 + c.args.w) t c.args.a)
+          (multiple_add (2 ^ 64 + c.args.w) (word_pos 64 c.args.w) c.args.a)
+          (set words 0 0) (get_or-set_same words 0 0 0 some);
+      power = multiple_one 64 c.args.w c.args.a c.ranges.w.fits c.ranges.a.fits;
+    }
 
 pub extend_sums-requires : goal.extend_sums-requires
 extend_sums-requires g c =
@@ -26,7 +33,7 @@ loop-k-preserved g c =
       len = c.extend_sums.ensures.len ∙ c.loop-k.invariant.len;
       filled =
           filled_twice (λ t. times_mod (2 ^ 64 + c.args.w) t c.args.a) (multiple_add (2 ^ 64 + c.args.w) (word_pos 64 c.args.w) c.args.a)
-          c.loop-k.k _ _ c.loop-k.result c.extend_sums.new.words
+          c.loop-k.k _ _ c.loop-k.words c.extend_sums.new.words
           half c.loop-k.invariant.power c.loop-k.invariant.filled c.extend_sums.ensures.below c.extend_sums.ensures.above;
       power = c.double-power.ensures ∙ power_doubled 63 c.args.w c.args.a c.loop-k.power c.loop-k.k c.ranges.w.fits c.loop-k.invariant.power;
     }
