@@ -1,2 +1,3 @@
 -- What the contracts cite.
 pub mod Counted
+pub mod Printed

@@ -2,8 +2,12 @@
 // handed over at each call, as is usual, and not kept.
 #![tactic(auto)]
 
-ghost use Rattle.std.specs.Prelude.{◌≡◌, if◌then◌else◌, nat_eq};
-ghost use Rattle.tally.specs.Counted.{counted};
+ghost use Rattle.std.specs.Prelude.{◌≡◌, Some, nat_eq};
+ghost use Rattle.tally.specs.Counted.{counted, verdict_of};
+ghost use Rattle.tally.specs.Printed.{line_text, tally_text, verdict_text, word_line_text};
+
+#[cfg(test)]
+mod tests;
 
 use std::io::Print;
 use std::{fmt, io};
@@ -16,11 +20,44 @@ pub enum Verdict {
 }
 
 impl fmt::Display for Verdict {
+    ghost output = { λ verdict. Some (verdict_text verdict) };
+
     fn fmt<W: fmt::Write>(&self, f: &mut fmt::Formatter<W>) -> fmt::Result {
         f.write_str(match self {
             Verdict::Same => "ok",
             Verdict::Differs => "differs",
         })
+    }
+}
+
+// The line that is printed of an answer, with no more to say than whether it is as known.
+#[derive(Clone, Copy)]
+struct Line<'a> {
+    what: &'a str,
+    verdict: Verdict,
+}
+
+impl fmt::Display for Line<'_> {
+    ghost output = { λ line. Some (line_text line.what.now line.verdict) };
+
+    fn fmt<W: fmt::Write>(&self, f: &mut fmt::Formatter<W>) -> fmt::Result {
+        write!(f, "{}: {}", self.what, self.verdict)
+    }
+}
+
+// The line that is printed of a word that came out.
+#[derive(Clone, Copy)]
+struct WordLine<'a> {
+    what: &'a str,
+    word: u64,
+    verdict: Verdict,
+}
+
+impl fmt::Display for WordLine<'_> {
+    ghost output = { λ line. Some (word_line_text line.what.now line.word line.verdict) };
+
+    fn fmt<W: fmt::Write>(&self, f: &mut fmt::Formatter<W>) -> fmt::Result {
+        write!(f, "{}: {:016X} {}", self.what, self.word, self.verdict)
     }
 }
 
@@ -32,6 +69,8 @@ pub struct Tally {
 }
 
 impl fmt::Display for Tally {
+    ghost output = { λ tally. Some (tally_text tally) };
+
     fn fmt<W: fmt::Write>(&self, f: &mut fmt::Formatter<W>) -> fmt::Result {
         write!(f, "{} lines, {} differ", self.lines, self.differ)
     }
@@ -51,7 +90,7 @@ impl Tally {
 
     // Counts an answer.
     pub fn verdict(&mut self, same: bool) -> Verdict
-        ensures verdict { result ≡ (if same then Verdict.Same else Verdict.Differs) }
+        ensures verdict { result ≡ verdict_of same }
         ensures counts { self.new ≡ counted self.old same }
     {
         self.lines = self.lines.wrapping_add(1);
@@ -67,15 +106,40 @@ impl Tally {
     pub fn line(&mut self, rt: &impl Print, what: &str, same: bool) -> io::Result<()>
         ensures counts { self.new ≡ counted self.old same }
     {
-        let verdict = self.verdict(same);
-        println!(rt; "{what}: {verdict}")
+        let line = self.counted_line(what, same);
+        rt.println(line)
     }
 
     // Counts a word that came out, and prints it and whether it is the known one.
     pub fn word(&mut self, rt: &impl Print, what: &str, word: u64, known: u64) -> io::Result<()>
         ensures counts { self.new ≡ counted self.old (nat_eq word known) }
     {
+        let line = self.counted_word(what, word, known);
+        rt.println(line)
+    }
+
+    // Counts an answer, for the line that is printed of it.
+    fn counted_line<'a>(&mut self, what: &'a str, same: bool) -> Line<'a>
+        ensures counts { self.new ≡ counted self.old same }
+        ensures what { result.what.now ≡ what.now }
+        ensures verdict { result.verdict ≡ verdict_of same }
+    {
+        let verdict = self.verdict(same);
+        Line { what, verdict }
+    }
+
+    // Counts a word that came out, for the line that is printed of it.
+    fn counted_word<'a>(&mut self, what: &'a str, word: u64, known: u64) -> WordLine<'a>
+        ensures counts { self.new ≡ counted self.old (nat_eq word known) }
+        ensures what { result.what.now ≡ what.now }
+        ensures word { result.word ≡ word }
+        ensures verdict { result.verdict ≡ verdict_of (nat_eq word known) }
+    {
         let verdict = self.verdict(word == known);
-        println!(rt; "{what}: {word:016X} {verdict}")
+        WordLine {
+            what,
+            word,
+            verdict,
+        }
     }
 }
