@@ -1,12 +1,13 @@
 -- Reading a line of each form.
-use Rattle.std.proofs.Common.{◌≡◌, ℕ, true, false, eqb, ◌≢◌, ◌⊎◌, List, [], ◌∷◌, ◌++◌, Ok, codes, sym, refl, ap, subst, inl, inr, append-nil}
+use Rattle.std.proofs.Common.{◌≡◌, ℕ, true, false, eqb, ◌≢◌, ◌⊎◌, List, [], ◌∷◌, ◌++◌, Ok, codes, sym, refl, ap, subst, inl, inr, append-nil, Err}
 use Rattle.std.specs.List.{AllByRecursion}
 use Rattle.std.proofs.lemmas.Bool.{cases_Bool, cond_both, eqb-false, ne_eqb}
+use Rattle.line_reader.specs.declared.fault.ReadFault.TheVariants.{Syntax}
 use Rattle.line_reader.specs.Numbers.{number_of_kind}
 use Rattle.line_reader.specs.Grammar.{spelling, Sentence, nothing, zone, point, rule, Spells, empty_line, comment_line, zone_line, point_line, rule_line, OpensEscape, opens}
-use Rattle.line_reader.specs.Reading.{Stage, and_then, first, read_word, read_number, read_name, read_kind, past_remark, read_comment, read_zone, read_point, read_rule, form, read_form}
-use Rattle.line_reader.proofs.Steady.{Reads, stay, stay_at, stay_end, pass, weaken, by_first, then_reads}
-use Rattle.line_reader.proofs.Leaves.{Never, word_reads, number_reads, number_whole, number_last}
+use Rattle.line_reader.specs.Reading.{Stage, and_then, read_word, read_number, read_name, read_kind, past_remark, read_comment, read_zone, read_point, read_rule, form, read_form}
+use Rattle.line_reader.proofs.Steady.{Alike, Reads, stay, stay_at, stay_end, pass, via, weaken, then_reads}
+use Rattle.line_reader.proofs.Leaves.{Never, no_fault, word_reads, number_reads, number_whole, number_last}
 use Rattle.line_reader.proofs.KindWords.{kind_reads, kind_whole}
 use Rattle.line_reader.proofs.Names.{name_reads, name_whole}
 
@@ -59,16 +60,22 @@ rule_reads =
 abbrev ReadsLine : List ℕ → (List ℕ → Stage Sentence) → Type 0
 ReadsLine text p = Reads p Spells OpensEscape text
 
+-- the form of the first byte
+form_by : (b : ℕ) (t s : List ℕ) → Alike (b ∷ t) s → read_form s ≡ form b s
+form_by b t [] h = absurd h
+form_by b t (c ∷ s) h = ap (λ (x : ℕ). form x (c ∷ s)) (sym h)
+
 pub form_reads : (text : List ℕ) → Reads read_form Spells OpensEscape text
-form_reads text = by_first form text (chosen (first text))
+form_reads [] = stay_end (Ok nothing) refl empty_line
+form_reads (b ∷ t) = via (chosen (b ∷ t)) (form_by b t)
   where
-    chosen : (b : ℕ) → Reads (form b) Spells OpensEscape text
-    chosen b =
+    chosen : (text : List ℕ) → Reads (form b) Spells OpensEscape text
+    chosen text =
         cond_both (eqb b 35) _ _ (ReadsLine text) (λ _. comment_reads text) (λ _.
         cond_both (eqb b 122) _ _ (ReadsLine text) (λ _. zone_reads text) (λ _.
         cond_both (eqb b 112) _ _ (ReadsLine text) (λ _. point_reads text) (λ _.
         cond_both (eqb b 114) _ _ (ReadsLine text) (λ _. rule_reads text) (λ _.
-        stay text (Ok nothing) (λ _. refl) empty_line))))
+        stay text (Err Syntax) (λ _. refl) (([], nothing, empty_line), no_fault)))))
 
 -- ---- every line of the grammar is read whole
 

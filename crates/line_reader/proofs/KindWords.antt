@@ -39,10 +39,7 @@ kind_reads (b ∷ t) = decide (cases_Bool (eqb b 104)) (cases_Bool (eqb b 99)) (
     at c e h = subst (λ x. Reads read_kind KindWord Never (x ∷ t)) (sym (eqb-true b c e)) h
 
     none : eqb b 104 ≡ false → eqb b 99 ≡ false → eqb b 115 ≡ false → (s : List ℕ) → read_kind (b ∷ s) ≡ (b ∷ s, Err Syntax)
-    none h c o s =
-        rw (h, c)
-        (elim (eqb (first s) 111) as (λ v. and_then (read_word (spelling (cond v Sounder Smoke)) (b ∷ s)) (λ _ t. (t, Ok (cond v Sounder Smoke))) ≡ (b ∷ s, Err Syntax))
-        [ true ↦ rw o | false ↦ rw o ])
+    none h c o s = rw (h, c, o)
 
     decide : ((eqb b 104 ≡ true) ⊎ (eqb b 104 ≡ false)) → ((eqb b 99 ≡ true) ⊎ (eqb b 99 ≡ false)) → ((eqb b 115 ≡ true) ⊎ (eqb b 115 ≡ false)) → Reads read_kind KindWord Never (b ∷ t)
     decide (inl e) _ _ = at 104 e (pass 104 (λ s. refl) (rest_reads Heat (codes "h") (codes "eat") refl t))

@@ -18,4 +18,5 @@ pub mod Decimals
 pub mod Written
 pub mod TextsPass
 pub mod SiteSeals
+pub mod AsMade
 pub mod SumExamples

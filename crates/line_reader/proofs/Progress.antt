@@ -4,12 +4,11 @@ use lib.ListN.{length-map}
 use Rattle.std.proofs.lemmas.List.{map_push, take_more}
 use Rattle.hashes.specs.Family.{Meaning}
 use Rattle.hashes.specs.KeyFault.{Answer, answered}
+use Rattle.register.specs.Facts.{RegisterFacts}
 use Rattle.register.specs.Inputs.{input_after, input_reply}
 use Rattle.register.specs.Records.{Record}
 use Rattle.register.specs.Run.{Input, Reply, run, step}
 use Rattle.register.specs.View.{View, key_of, opening, pad_of, seal, sealed, standing}
-use Rattle.register.proofs.Checked.{opened_is}
-use Rattle.register.proofs.Steps.{input_leaves, input_replies}
 use Rattle.line_reader.specs.declared.calls.Call.{Call}
 use Rattle.line_reader.specs.Calls.{call_input}
 use Rattle.line_reader.specs.Handover.{placed, records_of, replies_if, replies_of, sealing}
@@ -50,28 +49,33 @@ replies_push calls call = ap (λ (xs : List Input). (run [] xs).0) (map_push cal
 -- from a new register v the calls lead to w, and from the places as they were to those that hold the replies
 abbrev pub Progress : (M : Meaning) → View M → View M → List Call → List Reply → List Reply → Type 0
 Progress M v w calls places later =
-    (key : List ℕ) (pad : ℕ) → v ≡ standing M key pad [] → (w ≡ standing M key pad (records_of calls)) × (later ≡ placed (replies_of calls) places)
+    RegisterFacts M → (key : List ℕ) (pad : ℕ) → v ≡ standing M key pad []
+    → (w ≡ standing M key pad (records_of calls)) × (later ≡ placed (replies_of calls) places)
 
 module _ (M : Meaning) (v w u : View M) (calls : List Call) (call : Call) (places later : List Reply) (a : Reply)
     (so_far : Progress M v w calls places later) (replies : a ≡ input_reply M w (call_input call)) (leaves : u ≡ input_after M w (call_input call)) where
-  stands : (key : List ℕ) (pad : ℕ) → v ≡ standing M key pad [] → u ≡ standing M key pad (records_of (calls ++ (call ∷ [])))
-  stands key pad e =
-      leaves ∙ ap (λ (x : View M). input_after M x (call_input call)) (so_far key pad e).0
-      ∙ input_leaves M key pad (records_of calls) (call_input call) ∙ ap (standing M key pad) (sym (records_push calls call))
+  module _ (facts : RegisterFacts M) (key : List ℕ) (pad : ℕ) (e : v ≡ standing M key pad []) where
+    stands : u ≡ standing M key pad (records_of (calls ++ (call ∷ [])))
+    stands =
+        leaves ∙ ap (λ (x : View M). input_after M x (call_input call)) (so_far facts key pad e).0
+        ∙ facts.calls_leave key pad (records_of calls) (call_input call)
+        ∙ ap (standing M key pad) (sym (records_push calls call))
 
-  reply_is : (key : List ℕ) (pad : ℕ) → v ≡ standing M key pad [] → a ≡ (step (records_of calls) (call_input call)).0
-  reply_is key pad e =
-      replies ∙ ap (λ (x : View M). input_reply M x (call_input call)) (so_far key pad e).0 ∙ input_replies M key pad (records_of calls) (call_input call)
+    reply_is : a ≡ (step (records_of calls) (call_input call)).0
+    reply_is =
+        replies ∙ ap (λ (x : View M). input_reply M x (call_input call)) (so_far facts key pad e).0
+        ∙ facts.calls_reply key pad (records_of calls) (call_input call)
 
   -- its reply is put into its place
   pub progress_push : Progress M v u (calls ++ (call ∷ [])) places (set later (length calls) a)
-  progress_push key pad e = (
-    stands key pad e,
-    ap (λ (xs : List Reply). set xs (length calls) a) (so_far key pad e).1
+  progress_push facts key pad e = (
+    stands facts key pad e,
+    ap (λ (xs : List Reply). set xs (length calls) a) (so_far facts key pad e).1
         ∙ ap (λ (n : ℕ). set (placed (replies_of calls) places) n a) (sym (replies_length calls))
         ∙ placed_more (replies_of calls) places a
         ∙ ap (λ (xs : List Reply). placed xs places)
-        (ap (λ (x : Reply). replies_of calls ++ (x ∷ [])) (reply_is key pad e) ∙ sym (replies_push calls call)),
+        (ap (λ (x : Reply). replies_of calls ++ (x ∷ [])) (reply_is facts key pad e)
+        ∙ sym (replies_push calls call)),
   )
 
 -- the call at place i of all calls
@@ -86,11 +90,13 @@ progress_next M v w u calls i d places later next a h so_far replies leaves puts
     so_long : length (take i calls) ≡ i
     so_long = length-take-le i calls (omega arith)
 
--- ---- from a register that opened
+-- ---- from a key buffer
 
-module _ (M : Meaning) (buffer : List ℕ) (calls : List Call) (v w : View M) (places later : List Reply) (opens : Ok v ≡ opening M buffer) (made : MakesCalls M v w calls places later) where
+module _ (M : Meaning) (buffer : List ℕ) (calls : List Call) (v w : View M)
+    (places later : List Reply) (facts : RegisterFacts M)
+    (opens : Ok v ≡ opening M buffer) (made : MakesCalls M v w calls places later) where
   end : (w ≡ standing M (key_of M buffer) (pad_of M buffer) (records_of calls)) × (later ≡ placed (replies_of calls) places)
-  end = made.makes (key_of M buffer) (pad_of M buffer) (opened_is M buffer v opens)
+  end = made.makes facts (key_of M buffer) (pad_of M buffer) (facts.opens_new buffer v opens)
 
   pub calls_sealed : (s : ℕ) → s ≡ seal M w → Ok s ≡ sealing M buffer calls
   calls_sealed s e = ap Ok (e ∙ ap (seal M) end.0) ∙ ap (answered (λ _. sealed M (key_of M buffer) (pad_of M buffer) (records_of calls))) opens

@@ -1,5 +1,5 @@
 -- The seal of a text behind its key buffer, by a family's meaning and by its closed formula.
-use Rattle.std.proofs.Common.{◌≡◌, ℕ, ◌+◌, ◌<◌, ◌≤◌, Bool, true, false, cond, eqb, leb, List, [], length, take, drop, Some, Ok, Option, sym, refl, ap, ◌∙◌, ap₂, subst, arith, length-take, take-take, Err}
+use Rattle.std.proofs.Common.{◌≡◌, ℕ, ◌+◌, ◌<◌, ◌≤◌, Bool, true, false, cond, eqb, leb, List, [], length, take, drop, Some, Ok, Option, None, sym, refl, ap, ◌∙◌, ap₂, subst, arith, length-take, take-take, Err}
 use lib.Bits.{bit_xor}
 use Rattle.std.proofs.ByRecursion.{All-drop, All-take}
 use Rattle.std.proofs.lemmas.List.{drop-take}
@@ -7,18 +7,18 @@ use Rattle.std.proofs.lemmas.Slice.{between_to_end}
 use Rattle.std.proofs.lemmas.Bool.{eq-eqb, le-leb, leb-true}
 use Rattle.hashes.specs.Division.{division_family}
 use Rattle.hashes.specs.Evaluation.{evaluation_family}
-use Rattle.hashes.specs.Family.{Meaning}
+use Rattle.hashes.specs.Family.{Meaning, hash}
 use Rattle.hashes.specs.KeyFault.{judged, Answer}
 use Rattle.hashes.specs.Toeplitz.{toeplitz_family}
 use Rattle.hashes.specs.Word.{Bytes, word}
 use Rattle.hashes.specs.DivisionFamily.{division_facts}
 use Rattle.hashes.specs.EvaluationFamily.{evaluation_facts}
 use Rattle.hashes.specs.ToeplitzFamily.{toeplitz_facts}
-use Rattle.register.specs.Records.{message}
-use Rattle.register.specs.View.{View, opening, standing}
-use Rattle.register.proofs.Bounds.{book_bytes}
-use Rattle.register.proofs.Checked.{judged_is}
+use Rattle.register.specs.Facts.{RegisterFacts}
+use Rattle.register.specs.Records.{Record, message}
+use Rattle.register.specs.View.{View, key_of, opening, pad_of, sealed, standing}
 use Rattle.line_reader.specs.Making.{Sent, all_taken, stopped, sent}
+use Rattle.line_reader.specs.Sending.{RefusedText, by_buffer, by_line}
 use Rattle.line_reader.specs.declared.family_code.FamilyCode.{FamilyCode}
 use Rattle.line_reader.specs.declared.family_code.FamilyCode.TheVariants.{Division, Toeplitz, Evaluation}
 use Rattle.line_reader.specs.FamilyCodes.{code_of_family, family_answer, picked, scheme_of_family}
@@ -55,6 +55,15 @@ pub record Cut (M : Meaning) (rest buffer text : List ℕ) : Type 0 where
   pub front : buffer ≡ take (M.key_len + 8) rest
   pub back : text ≡ drop (M.key_len + 8) rest
 
+-- what a refusal, or none, was
+judged_ok : {V : Type 0} (v w : V) (o : Option ℕ) → Ok v ≡ judged w o → (v ≡ w) × (o ≡ None)
+judged_ok v w None e = (cc, refl)
+judged_ok v w (Some n) e = absurd cc
+
+judged_err : {V : Type 0} (w : V) (o : Option ℕ) (n : ℕ) → judged w o ≡ Err n → o ≡ Some n
+judged_err w None n e = absurd cc
+judged_err w (Some m) n e = cc
+
 module _ {M : Meaning} {rest buffer text : List ℕ} (cut : Cut M rest buffer text) where
   opening_is : opening M buffer ≡ judged (standing M (key_in M rest) (pad_in M rest) []) (M.refusal (key_in M rest))
   unfolding key_in pad_in opening_by
@@ -67,20 +76,44 @@ module _ {M : Meaning} {rest buffer text : List ℕ} (cut : Cut M rest buffer te
       sized : length (take (M.key_len + 8) rest) ≡ M.key_len + 8
       sized = omega (arith, length-take (M.key_len + 8) rest, cut.long)
 
-  pub opened_stands : (v : View M) → Ok v ≡ opening M buffer → v ≡ standing M (key_in M rest) (pad_in M rest) []
-  opened_stands v o = (judged_is v _ (M.refusal (key_in M rest)) (o ∙ opening_is)).0
-
-  pub lines_come : (v : View M) → Ok v ≡ opening M buffer → (s : Sent) → sent [] (lines_of text) 1 ≡ s
+  lines_come : (v : View M) → Ok v ≡ opening M buffer → (s : Sent) → sent [] (lines_of text) 1 ≡ s
       → seal_of_lines (scheme_of M) (key_in M rest) (pad_in M rest) s ≡ seal_by_scheme (scheme_of M) rest
   lines_come v o s comes =
       ap (λ (f : Option ℕ). unless_refused_key f (seal_of_lines (scheme_of M) (key_in M rest) (pad_in M rest) s))
-      (sym (judged_is v _ (M.refusal (key_in M rest)) (o ∙ opening_is)).1)
+      (sym (judged_ok v _ (M.refusal (key_in M rest)) (o ∙ opening_is)).1)
       ∙ scheme_is M rest cut.long s (ap (λ (x : List ℕ). sent [] (lines_of x) 1) (sym cut.back) ∙ comes)
+
+  -- the text is refused
+  pub text_refused : (n : ℕ) (place : ℕ × ℕ) → RefusedText M buffer text n place → Err (n, place)
+      ≡ seal_by_scheme (scheme_of M) rest
+  text_refused n _ (by_buffer e) =
+      ap (λ (f : Option ℕ).
+      unless_refused_key f
+      (seal_of_lines (scheme_of M) (key_in M rest) (pad_in M rest)
+      (sent [] (lines_of text) 1)))
+      (sym (judged_err _ (M.refusal (key_in M rest)) n (sym opening_is ∙ e)))
+      ∙ scheme_is M rest cut.long (sent [] (lines_of text) 1)
+      (ap (λ (x : List ℕ). sent [] (lines_of x) 1) (sym cut.back))
+  text_refused n place (by_line o s) = lines_come _ o (stopped n place.0 place.1) s
+
+  -- its records are sealed
+  pub text_sealed : (v : View M) → Ok v ≡ opening M buffer → (rs : List Record)
+      → sent [] (lines_of text) 1 ≡ all_taken rs
+      → Ok (length (message rs) + 12, sealed M (key_of M buffer) (pad_of M buffer) rs)
+      ≡ seal_by_scheme (scheme_of M) rest
+  unfolding key_in pad_in
+  text_sealed v o rs s =
+      ap₂ (λ (k p : List ℕ).
+      Ok (length (message rs) + 12, bit_xor (hash M k (message rs)) (word p)))
+      (ap (take M.key_len) cut.front ∙ take-take M.key_len (M.key_len + 8) rest (omega arith))
+      (ap (drop M.key_len) cut.front ∙ drop-take M.key_len 8 rest)
+      ∙ lines_come v o (all_taken rs) s
 
 -- ---- by the formula
 
 -- two schemes with the same keys, and the same hashes of byte strings
-module _ (n : ℕ) (refusal : List ℕ → Option ℕ) (f g : List ℕ → List ℕ → ℕ)
+module _ {M : Meaning} (facts : RegisterFacts M) (n : ℕ) (refusal : List ℕ → Option ℕ)
+    (f g : List ℕ → List ℕ → ℕ)
     (same : (k m : List ℕ) → Bytes k → length k ≡ n → Bytes m → f k m ≡ g k m) (rest : List ℕ) (bytes : Bytes rest) where
   abbrev by : (List ℕ → List ℕ → ℕ) → Scheme
   by h = record { key_len = n; refusal = refusal; formula = h }
@@ -89,7 +122,8 @@ module _ (n : ℕ) (refusal : List ℕ → Option ℕ) (f g : List ℕ → List 
       → seal_of_lines (by f) (take n rest) pad s ≡ seal_of_lines (by g) (take n rest) pad s
   lines_agree pad lines l (all_taken rs) e =
       ap (λ (h : ℕ). Ok (length (message rs) + 12, bit_xor h pad))
-      (same (take n rest) (message rs) (All-take (λ (b : ℕ). b < 256) n rest bytes) l (book_bytes rs (sent_book lines 1 rs e)))
+      (same (take n rest) (message rs) (All-take (λ (b : ℕ). b < 256) n rest bytes) l
+      (facts.book_bytes rs (sent_book facts lines 1 rs e)))
   lines_agree pad lines l (stopped number line column) e = refl
 
   by_length : (b : Bool) → leb (n + 8) (length rest) ≡ b → (s t : InputAnswer) → (length (take n rest) ≡ n → s ≡ t)
@@ -103,14 +137,23 @@ module _ (n : ℕ) (refusal : List ℕ → Option ℕ) (f g : List ℕ → List 
       (λ l. ap (unless_refused_key (refusal (take n rest))) (lines_agree _ (lines_of (drop (n + 8) rest)) l _ refl))
 
 -- the three families, by their formulas
-pub division_agrees : (rest : List ℕ) → Bytes rest → seal_by_scheme (scheme_of division_family) rest ≡ seal_by_scheme division_scheme rest
-division_agrees rest bytes = schemes_agree 8 division_family.refusal _ _ (λ k m bk l bm. division_facts.formula k m bk l bm) rest bytes
+pub division_agrees : {M : Meaning} → RegisterFacts M → (rest : List ℕ) → Bytes rest
+    → seal_by_scheme (scheme_of division_family) rest ≡ seal_by_scheme division_scheme rest
+division_agrees facts rest bytes =
+    schemes_agree facts 8 division_family.refusal _ _
+    (λ k m bk l bm. division_facts.formula k m bk l bm) rest bytes
 
-pub toeplitz_agrees : (rest : List ℕ) → Bytes rest → seal_by_scheme (scheme_of toeplitz_family) rest ≡ seal_by_scheme toeplitz_scheme rest
-toeplitz_agrees rest bytes = schemes_agree 16 toeplitz_family.refusal _ _ (λ k m bk l bm. toeplitz_facts.formula k m) rest bytes
+pub toeplitz_agrees : {M : Meaning} → RegisterFacts M → (rest : List ℕ) → Bytes rest
+    → seal_by_scheme (scheme_of toeplitz_family) rest ≡ seal_by_scheme toeplitz_scheme rest
+toeplitz_agrees facts rest bytes =
+    schemes_agree facts 16 toeplitz_family.refusal _ _
+    (λ k m bk l bm. toeplitz_facts.formula k m) rest bytes
 
-pub evaluation_agrees : (rest : List ℕ) → Bytes rest → seal_by_scheme (scheme_of evaluation_family) rest ≡ seal_by_scheme evaluation_scheme rest
-evaluation_agrees rest bytes = schemes_agree 8 evaluation_family.refusal _ _ (λ k m bk l bm. evaluation_facts.formula k m bm) rest bytes
+pub evaluation_agrees : {M : Meaning} → RegisterFacts M → (rest : List ℕ) → Bytes rest
+    → seal_by_scheme (scheme_of evaluation_family) rest ≡ seal_by_scheme evaluation_scheme rest
+evaluation_agrees facts rest bytes =
+    schemes_agree facts 8 evaluation_family.refusal _ _
+    (λ k m bk l bm. evaluation_facts.formula k m bm) rest bytes
 
 -- ---- the parts of an input
 
@@ -120,7 +163,8 @@ family_picks Toeplitz code e = ap scheme_by (sym e)
 family_picks Evaluation code e = ap scheme_by (sym e)
 
 -- an input that is not too long
-seal_within : (input : List ℕ) → length input ≤ longest_input → (o : Option ℕ) → o ≡ code_of input → seal_of_parts o (drop 1 input) ≡ input_answer input
+pub seal_within : (input : List ℕ) → length input ≤ longest_input → (o : Option ℕ) → o
+    ≡ code_of input → seal_of_parts o (drop 1 input) ≡ input_answer input
 seal_within input short o e =
     ap (λ (c : Option ℕ). seal_of_parts c (drop 1 input)) e
     ∙ ap (λ (b : Bool). cond b (seal_of_parts (code_of input) (drop 1 input)) (no_seal 5)) (sym (le-leb (length input) longest_input short))

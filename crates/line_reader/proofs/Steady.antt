@@ -87,10 +87,6 @@ pass {A} {p} {q} {L} {O} b same (reads over rest r steady sound) = reads (b ∷ 
     lift (Ok a) h = h
     lift (Err f) h = h
 
--- a stage that is chosen by the first byte
-pub by_first : {A : Type 0} {L : List ℕ → A → Type 0} {O : List ℕ → Type 0} (d : ℕ → List ℕ → Stage A) (text : List ℕ) → Reads (d (first text)) L O text → Reads (λ t. d (first t) t) L O text
-by_first d text h = via h (λ t e. ap (λ b. d b t) (sym (alike_first text t e)))
-
 module _ {A B : Type 0} (p : List ℕ → Stage A) (q : A → List ℕ → Stage B) {L : List ℕ → B → Type 0} {O : List ℕ → Type 0} where
   after : (over rest : List ℕ) (a : A) → ((t : List ℕ) → Alike rest t → p (over ++ t) ≡ (t, Ok a)) → Reads (q a) (λ y. L (over ++ y)) (λ y. O (over ++ y)) rest → Reads (λ t. and_then (p t) q) L O (over ++ rest)
   after over _ a steady (reads more rest r again sound) =

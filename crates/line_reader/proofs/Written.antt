@@ -3,11 +3,12 @@ use Rattle.std.proofs.Common.{◌≡◌, ℕ, zero, suc, ◌<◌, ◌≤◌, Boo
 use Rattle.std.specs.List.{AllByRecursion}
 use Rattle.std.proofs.ByRecursion.{All-weaker, All-append}
 use Rattle.std.proofs.lemmas.Bool.{and_from, and_parts, not_from_false, le-leb, leb-true, leb-false, eqb-true, eqb-false, ne_eqb, cond-false}
+use Rattle.hashes.specs.Family.{Meaning}
 use Rattle.hashes.specs.Word.{Bytes}
 use Rattle.register.specs.Records as records
 use Rattle.register.specs.Book.{NameByte, Accepted, TakenAfter}
+use Rattle.register.specs.Facts.{RegisterFacts}
 use Rattle.register.specs.Run.{a_record}
-use Rattle.register.proofs.Rows.{accepted_in_range, accepted_name}
 use Rattle.line_reader.specs.declared.kind.Kind.{Kind}
 use Rattle.line_reader.specs.declared.kind.Kind.TheVariants.{Smoke, Heat, Call, Sounder}
 use Rattle.line_reader.specs.Numbers.{number_of_kind}
@@ -49,17 +50,19 @@ kind_is (suc (suc (suc (suc (suc k))))) l h = absurd (omega arith)
 -- ---- lines
 
 -- the line of a record that a book takes asks for it
-pub line_reads : (before : List records.Record) (r : records.Record) → Accepted before r → line_input (line_of r) ≡ a_record r
-line_reads before (records.zone n name) a =
-    let h = accepted_in_range before (records.zone n name) a in
-    let m = escaped_name name (accepted_name before n name a).2 in
+pub line_reads : {M : Meaning} → RegisterFacts M
+    → (before : List records.Record) (r : records.Record) → Accepted before r
+    → line_input (line_of r) ≡ a_record r
+line_reads facts before (records.zone n name) a =
+    let h = facts.accepted_in_range before (records.zone n name) a in
+    let m = escaped_name name (facts.accepted_name before n name a).2 in
     (lines_exact _ _).1 (asks_zone (zone_line (decimal_number n h.0 (omega arith)) m) m)
-line_reads before (records.point n z k) a =
-    let h = accepted_in_range before (records.point n z k) a in
+line_reads facts before (records.point n z k) a =
+    let h = facts.accepted_in_range before (records.point n z k) a in
     let asks = asks_point (point_line (kind_of k) (decimal_number n h.0.0 h.0.1) (decimal_number z h.1.0 (omega arith))) in
     (lines_exact _ _).1 (subst (λ (j : ℕ). Asks (line_of (records.point n z k)) (a_record (records.point n z j))) (kind_is k h.2.0 h.2.1) asks)
-line_reads before (records.rule z p) a =
-    let h = accepted_in_range before (records.rule z p) a in
+line_reads facts before (records.rule z p) a =
+    let h = facts.accepted_in_range before (records.rule z p) a in
     (lines_exact _ _).1 (asks_rule (rule_line (decimal_number z h.0.0 (omega arith)) (decimal_number p h.1.0 h.1.1)))
 
 -- ---- texts
@@ -126,19 +129,22 @@ both_bytes xs ys p q = All-append LineByte xs ys p q
 number_bytes : (n : ℕ) → 1 ≤ n → n ≤ 1000 → LineBytes (decimal n)
 number_bytes n low high = digits_bytes (decimal n) n (decimal_number n low high)
 
-line_bytes : (before : List records.Record) (r : records.Record) → Accepted before r → LineBytes (line_of r)
+line_bytes : {M : Meaning} → RegisterFacts M → (before : List records.Record) (r : records.Record)
+    → Accepted before r → LineBytes (line_of r)
 unfolding feeds
-line_bytes before (records.zone n name) a =
-    let h = accepted_in_range before (records.zone n name) a in
+line_bytes facts before (records.zone n name) a =
+    let h = facts.accepted_in_range before (records.zone n name) a in
     both_bytes (codes "zone ") _ (word_bytes (codes "zone ") refl) (both_bytes (decimal n) _ (number_bytes n h.0 (omega arith))
-    (both_bytes (codes " \"") _ (word_bytes (codes " \"") refl) (both_bytes (escaped name) (codes "\"") (name_bytes name (accepted_name before n name a).2) (word_bytes (codes "\"") refl))))
-line_bytes before (records.point n z k) a =
-    let h = accepted_in_range before (records.point n z k) a in
+    (both_bytes (codes " \"") _ (word_bytes (codes " \"") refl)
+    (both_bytes (escaped name) (codes "\"")
+    (name_bytes name (facts.accepted_name before n name a).2) (word_bytes (codes "\"") refl))))
+line_bytes facts before (records.point n z k) a =
+    let h = facts.accepted_in_range before (records.point n z k) a in
     both_bytes (codes "point ") _ (word_bytes (codes "point ") refl) (both_bytes (decimal n) _ (number_bytes n h.0.0 h.0.1)
     (both_bytes (codes " ") _ (word_bytes (codes " ") refl) (both_bytes (decimal z) _ (number_bytes z h.1.0 (omega arith))
     (both_bytes (codes " ") _ (word_bytes (codes " ") refl) (kind_bytes (kind_of k))))))
-line_bytes before (records.rule z p) a =
-    let h = accepted_in_range before (records.rule z p) a in
+line_bytes facts before (records.rule z p) a =
+    let h = facts.accepted_in_range before (records.rule z p) a in
     both_bytes (codes "rule ") _ (word_bytes (codes "rule ") refl) (both_bytes (decimal z) _ (number_bytes z h.0.0 (omega arith))
     (both_bytes (codes " ") _ (word_bytes (codes " ") refl) (number_bytes p h.1.0 h.1.1)))
 
@@ -151,16 +157,20 @@ lines_first (b ∷ l) rest h =
     ∙ ap (on_first b) (lines_first l rest h.1)
 
 -- the lines of the text of records that a book takes
-pub text_lines : (before rs : List records.Record) → TakenAfter before rs → lines_of (text_of rs) ≡ map line_of rs
-text_lines before [] h = refl
-text_lines before (r ∷ rs) h =
-    lines_first (line_of r) (text_of rs) (line_bytes before r h.0)
-    ∙ ap (λ (ls : List (List ℕ)). line_of r ∷ ls) (text_lines (before ++ (r ∷ [])) rs h.1)
+pub text_lines : {M : Meaning} → RegisterFacts M → (before rs : List records.Record)
+    → TakenAfter before rs → lines_of (text_of rs) ≡ map line_of rs
+text_lines facts before [] h = refl
+text_lines facts before (r ∷ rs) h =
+    lines_first (line_of r) (text_of rs) (line_bytes facts before r h.0)
+    ∙ ap (λ (ls : List (List ℕ)). line_of r ∷ ls) (text_lines facts (before ++ (r ∷ [])) rs h.1)
 
 -- and the text is a string of bytes
-pub text_bytes : (before rs : List records.Record) → TakenAfter before rs → Bytes (text_of rs)
+pub text_bytes : {M : Meaning} → RegisterFacts M → (before rs : List records.Record)
+    → TakenAfter before rs → Bytes (text_of rs)
 unfolding LineBytes LineByte
-text_bytes before [] h = tt
-text_bytes before (r ∷ rs) h =
-    All-append (λ (b : ℕ). b < 256) (line_of r) (10 ∷ text_of rs) (All-weaker LineByte (λ (b : ℕ). b < 256) (λ b k. k.1) (line_of r) (line_bytes before r h.0))
-    (lit< tt, text_bytes (before ++ (r ∷ [])) rs h.1)
+text_bytes facts before [] h = tt
+text_bytes facts before (r ∷ rs) h =
+    All-append (λ (b : ℕ). b < 256) (line_of r) (10 ∷ text_of rs)
+    (All-weaker LineByte (λ (b : ℕ). b < 256) (λ b k. k.1) (line_of r)
+    (line_bytes facts before r h.0))
+    (lit< tt, text_bytes facts (before ++ (r ∷ [])) rs h.1)

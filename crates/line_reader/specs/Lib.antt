@@ -4,7 +4,6 @@ pub mod Numbers
 pub mod Grammar
 pub mod Reading
 pub mod Exact
-pub mod Worked
 pub mod Calls
 pub mod Handover
 pub mod Texts
@@ -13,6 +12,8 @@ pub mod MakeFaults
 pub mod SiteInput
 pub mod InputFaults
 pub mod FamilyCodes
+pub mod AsMade
 pub mod WorkedSums
+pub mod WorkedInputs
 -- From here on definitions that contracts of private functions alone cite.
 pub mod Sending

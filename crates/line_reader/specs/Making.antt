@@ -1,10 +1,10 @@
 -- What making the image of a text answers and leaves, and that the check passes just the images that texts make.
-use Rattle.std.specs.Prelude.{◌≡◌, ℕ, ◌+◌, cond, ◌↔◌, List, [], ◌∷◌, length, replicate, Ok, Err, Result, nat_le}
+use Rattle.std.specs.Prelude.{◌≡◌, ℕ, ◌+◌, ◌≤◌, cond, ◌↔◌, List, [], ◌∷◌, length, replicate, Ok, Err, Result, nat_le}
 use Rattle.std.specs.Int.{bytes_high_first}
 use Rattle.hashes.specs.Family.{Meaning}
 use Rattle.hashes.specs.KeyFault.{Answer}
 use Rattle.hashes.specs.Word.{Bytes}
-use Rattle.register.specs.Check.{Passes}
+use Rattle.register.specs.Check.{checked, says}
 use Rattle.register.specs.Image.{image}
 use Rattle.register.specs.Records.{Record}
 use Rattle.register.specs.Run.{Reply, taken, refused, step}
@@ -58,7 +58,10 @@ made_by M buffer text room (Err n) = unmade room n 0 0
 abbrev pub made : Meaning → List ℕ → List ℕ → ℕ → Making
 made M buffer text room = made_by M buffer text room (opening M buffer)
 
--- the check passes an image under a key buffer exactly when some text makes it
+-- the check passes an image under a key buffer exactly when some text makes it, in any output that
+-- has room for it
 abbrev pub TextsPass : Meaning → Type 0
-TextsPass M = (buffer image : List ℕ) → Bytes buffer → Bytes image
-    → Passes M buffer image ↔ ((text : List ℕ) × Bytes text × (made M buffer text (length image) ≡ (Ok (length image), image)))
+TextsPass M = (buffer image : List ℕ) (room : ℕ) → Bytes buffer → Bytes image → length image ≤ room
+    → (checked M buffer image ≡ says 1)
+    ↔ ((text : List ℕ) × Bytes text
+    × (made M buffer text room ≡ (Ok (length image), filled_up room image)))

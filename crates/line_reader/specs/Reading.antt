@@ -66,14 +66,22 @@ decoded name = (characters false name).0
 abbrev pub read_name : List ℕ → Stage (List ℕ)
 read_name text = and_then (characters false text).1 (λ _ t. (t, Ok (take (length text - length t) text)))
 
--- the only kind whose word may stand in front: heat by its h, call by its c, and sounder by the o after its s
-abbrev pub likely : List ℕ → Kind
+-- the only kind whose word may stand in front, if there is one: heat by its h, call by its c, and
+-- of the two with an s sounder by the o after it
+abbrev pub likely : List ℕ → Option Kind
 likely text =
-    cond (first text == 104) Heat (cond (first text == 99) Call (cond (slice_index text 1 == 111) Sounder Smoke))
+    cond (first text == 104) (Some Heat)
+    (cond (first text == 99) (Some Call)
+    (cond (first text == 115) (Some (cond (slice_index text 1 == 111) Sounder Smoke)) None))
+
+-- the word of this kind, if there is one
+abbrev pub kind_word : List ℕ → Option Kind → Stage Kind
+kind_word text None = (text, Err Syntax)
+kind_word text (Some k) = and_then (read_word (spelling k) text) (λ _ t. (t, Ok k))
 
 -- the word of a kind
 abbrev pub read_kind : List ℕ → Stage Kind
-read_kind text = and_then (read_word (spelling (likely text)) text) (λ _ t. (t, Ok (likely text)))
+read_kind text = kind_word text (likely text)
 
 -- what is left after bytes but line feeds
 abbrev pub past_remark : List ℕ → List ℕ
@@ -107,13 +115,18 @@ read_rule text =
     and_then (read_word (codes " ") t) (λ _ t.
     and_then (read_number t) (λ n t. (t, Ok (rule z n))))))
 
--- the form of a line that begins with the byte b: #, z, p or r; under any other byte only an empty line is left
+-- the form of a line that begins with the byte b: #, z, p or r; no other byte begins a line
 abbrev pub form : ℕ → List ℕ → Stage Sentence
 form b =
-    cond (b == 35) read_comment (cond (b == 122) read_zone (cond (b == 112) read_point (cond (b == 114) read_rule (λ t. (t, Ok nothing)))))
+    cond (b == 35) read_comment
+    (cond (b == 122) read_zone
+    (cond (b == 112) read_point
+    (cond (b == 114) read_rule (λ t. (t, Err Syntax)))))
 
+-- an empty line, or one of a form
 abbrev pub read_form : List ℕ → Stage Sentence
-read_form text = form (first text) text
+read_form [] = ([], Ok nothing)
+read_form (b ∷ t) = form b (b ∷ t)
 
 abbrev pub read_end : List ℕ → Stage (Unit {0})
 read_end [] = ([], Ok tt)

@@ -13,6 +13,7 @@ use crate::line::Line;
 use crate::reader::{decode, read_line};
 use hashes::family::Family;
 use register::fault::RecordFault;
+use register::limits::LONGEST_NAME;
 use register::record::{SiteRecord, point_record, rule_record};
 use register::register::Register;
 
@@ -29,6 +30,9 @@ pub enum Call<'a> {
     Rule { zone: u32, point: u32 },
 }
 
+// Room for a name that is too long by one byte.
+const NAME_ROOM: usize = LONGEST_NAME + 1;
+
 // As in the register, each function says what it answers, leaves and keeps: that is of a call, before and after it. Register and output stay two
 // parameters, since each clause speaks of one of them.
 
@@ -44,8 +48,9 @@ fn named_zone<F: Family>(
     ensures writes { out.new ≡ output_after F.meaning (view F.meaning F.state register.old) (Record.zone number (decoded name.now)) out.old }
     ensures keeps { Keeps result register.old register.new }
 {
-    // One byte more than the longest name, so that a longer one is refused as such. Fixed memory, and a length beside it, since there is no heap.
-    let mut bytes = [0; 41];
+    // So that a longer name is refused as such. Fixed memory, and a length beside it, since there
+    // is no heap.
+    let mut bytes = [0; NAME_ROOM];
     let n = decode(name, &mut bytes);
     register.apply_into(
         SiteRecord::Zone {

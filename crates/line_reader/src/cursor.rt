@@ -123,7 +123,7 @@ impl<'a> Cursor<'a> {
     fn kind(&mut self) -> Result<Kind, ReadFault>
         ensures { read_kind self.old ≡ (self.new, result) }
     {
-        let kind = Kind::likely(self.rest);
+        let kind = Kind::likely(self.rest).ok_or(ReadFault::Syntax)?;
         self.word(kind.spelled())?;
         Ok(kind)
     }
@@ -186,18 +186,20 @@ impl<'a> Cursor<'a> {
         Ok(Line::Rule { zone, point })
     }
 
-    // A line of the form that its first byte tells. Where that tells none, no byte is taken.
+    // An empty line, or a line of the form that its first byte tells.
     #[inline(always)]
     fn form(&mut self) -> Result<Line<'a>, ReadFault>
         ensures { read_form self.old ≡ (self.new, told result) }
     {
-        match self.rest {
-            [b'#', ..] => self.comment(),
-            [b'z', ..] => self.zone(),
-            [b'p', ..] => self.point(),
-            [b'r', ..] => self.rule(),
-            _ => Ok(Line::Blank),
-        }
+        let line = match self.rest {
+            [] => Line::Blank,
+            [b'#', ..] => self.comment()?,
+            [b'z', ..] => self.zone()?,
+            [b'p', ..] => self.point()?,
+            [b'r', ..] => self.rule()?,
+            _ => return Err(ReadFault::Syntax),
+        };
+        Ok(line)
     }
 
     // The end of the line.

@@ -3,9 +3,8 @@ ghost use Rattle.line_reader.specs.Calls.{column_of_line_fault, number_of_line_f
 ghost use Rattle.line_reader.specs.Numbers.{number_of_read_fault};
 ghost use Rattle.line_reader.specs.InputFaults.{number_of_input_fault, line_and_column_of_input_fault};
 ghost use Rattle.line_reader.specs.MakeFaults.{number_of_make_fault, line_and_column_of_make_fault};
-ghost use Rattle.line_reader.specs.declared.fault.InputFault.TheVariants.{Make};
-ghost use Rattle.line_reader.specs.declared.fault.LineFault.TheVariants.{Read, Record};
-ghost use Rattle.line_reader.specs.declared.fault.MakeFault.TheVariants.{Key};
+ghost use Rattle.hashes.specs.KeyFault.{number_of_key_fault};
+ghost use Rattle.register.specs.Faults.{number_of_record_fault};
 ghost use Rattle.std.specs.Prelude.{◌≡◌};
 
 use hashes::key_fault::KeyFault;
@@ -63,7 +62,8 @@ impl LineFault {
 
 // Conversions by hand here and below: a derive's would have no contract, and clauses name the fault that a `?` makes.
 impl From<(ReadFault, usize)> for LineFault {
-    ghost from_gives = { λ f r. r ≡ Read f.0 f.1 };
+    ghost from_gives = { λ f r. (number_of_line_fault r ≡ number_of_read_fault f.0)
+        × (column_of_line_fault r ≡ f.1) };
 
     fn from((fault, column): (ReadFault, usize)) -> LineFault {
         LineFault::Read(fault, column)
@@ -71,7 +71,8 @@ impl From<(ReadFault, usize)> for LineFault {
 }
 
 impl From<RecordFault> for LineFault {
-    ghost from_gives = { λ f r. r ≡ Record f };
+    ghost from_gives = { λ f r. (number_of_line_fault r ≡ number_of_record_fault f)
+        × (column_of_line_fault r ≡ 0) };
 
     fn from(fault: RecordFault) -> LineFault {
         LineFault::Record(fault)
@@ -113,7 +114,8 @@ impl MakeFault {
 }
 
 impl From<KeyFault> for MakeFault {
-    ghost from_gives = { λ f r. r ≡ Key f };
+    ghost from_gives = { λ f r. (number_of_make_fault r ≡ number_of_key_fault f)
+        × (line_and_column_of_make_fault r ≡ (0, 0)) };
 
     fn from(fault: KeyFault) -> MakeFault {
         MakeFault::Key(fault)
@@ -155,7 +157,8 @@ impl InputFault {
 }
 
 impl From<MakeFault> for InputFault {
-    ghost from_gives = { λ f r. r ≡ Make f };
+    ghost from_gives = { λ f r. (number_of_input_fault r ≡ number_of_make_fault f)
+        × (line_and_column_of_input_fault r ≡ line_and_column_of_make_fault f) };
 
     fn from(fault: MakeFault) -> InputFault {
         InputFault::Make(fault)

@@ -1,7 +1,7 @@
 // Two sites sealed by calls on two new registers, and what their seals are worth.
 ghost use Rattle.hashes.specs.KeyFault.{opened};
 ghost use Rattle.line_reader.specs.Calls.{call_input, line_reply};
-ghost use Rattle.line_reader.specs.Handover.{HandoverPromise, placed, replies_if, sealing};
+ghost use Rattle.line_reader.specs.Handover.{HandoverPromise, SealsSite, placed, replies_if, sealing};
 ghost use Rattle.line_reader.specs.Sending.{MakesCalls};
 ghost use Rattle.register.specs.Inputs.{input_after, input_reply};
 ghost use Rattle.register.specs.Values.{view};
@@ -12,6 +12,7 @@ use crate::calls::{Call, line};
 use crate::fault::LineFault;
 use hashes::family::Family;
 use hashes::key_fault::KeyFault;
+use register::facts::{message_bounds, register_facts, seal_bounds};
 use register::register::Register;
 
 // Makes a call.
@@ -54,16 +55,20 @@ fn serve_all<F: Family>(
 
 // Opens a register by a key buffer, which it leaves zero, makes the calls in order, and closes it: the seal. The answers go into the
 // places in order, as far as there are places.
-#[tactic(auto, using(crate::proofs::Progress::calls_sealed, crate::proofs::Progress::calls_replied))]
+#[tactic(auto, using(crate::proofs::Progress::calls_sealed, crate::proofs::Progress::calls_replied, crate::proofs::Promised::site_outcome))]
 pub fn seal_calls<F: Family>(
     buffer: &mut [u8],
     calls: &[Call],
     answers: &mut [Result<usize, LineFault>],
 ) -> Result<u64, KeyFault>
+    ensures outcome { SealsSite F.meaning buffer.old calls.now (map line_reply answers.old)
+        (opened (λ s. s) result) (map line_reply answers.new) }
     ensures seals { opened (λ s. s) result ≡ sealing F.meaning buffer.old calls.now }
     ensures replies { map line_reply answers.new ≡ placed (replies_if (opening F.meaning buffer.old) calls.now) (map line_reply answers.old) }
     ensures cleared { buffer.new ≡ replicate (length buffer.old) 0 }
 {
+    // What the register promises of its calls, by which the clauses follow.
+    register_facts::<F>();
     let mut register = Register::<F>::open(buffer)?;
     serve_all(&mut register, calls, answers);
     Ok(register.close())
@@ -79,14 +84,18 @@ pub fn handover<F: Family>(
     calls2: &[Call],
     answers2: &mut [Result<usize, LineFault>],
 ) -> (Result<u64, KeyFault>, Result<u64, KeyFault>)
-    ensures seals { opened (λ s. s) result.0 ≡ sealing F.meaning buffer.old calls.now }
-    ensures replies { map line_reply answers.new ≡ placed (replies_if (opening F.meaning buffer.old) calls.now) (map line_reply answers.old) }
+    ensures outcome { SealsSite F.meaning buffer.old calls.now (map line_reply answers.old)
+        (opened (λ s. s) result.0) (map line_reply answers.new) }
     ensures cleared { buffer.new ≡ replicate (length buffer.old) 0 }
-    ensures seals2 { opened (λ s. s) result.1 ≡ sealing F.meaning buffer2.old calls2.now }
-    ensures replies2 { map line_reply answers2.new ≡ placed (replies_if (opening F.meaning buffer2.old) calls2.now) (map line_reply answers2.old) }
+    ensures outcome2 { SealsSite F.meaning buffer2.old calls2.now (map line_reply answers2.old)
+        (opened (λ s. s) result.1) (map line_reply answers2.new) }
     ensures cleared2 { buffer2.new ≡ replicate (length buffer2.old) 0 }
     ensures promise { HandoverPromise F.meaning }
 {
+    // What the register promises of runs and bounds, from which the promise follows.
+    register_facts::<F>();
+    seal_bounds::<F>();
+    message_bounds::<F>();
     (
         seal_calls::<F>(buffer, calls, answers),
         seal_calls::<F>(buffer2, calls2, answers2),

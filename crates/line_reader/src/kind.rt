@@ -31,16 +31,16 @@ impl Kind {
         }
     }
 
-    // The only kind whose word may stand at the front of `text`; smoke also where none may: its word is then refused at the byte that does not fit, and
-    // so at the right column.
-    pub(crate) fn likely(text: &[u8]) -> Kind
+    // The only kind whose word may stand at the front of `text`, if there is one.
+    pub(crate) fn likely(text: &[u8]) -> Option<Kind>
         ensures { result ≡ likely text.now }
     {
         match text {
-            [b'h', ..] => Kind::Heat,
-            [b'c', ..] => Kind::Call,
-            [_, b'o', ..] => Kind::Sounder,
-            _ => Kind::Smoke,
+            [b'h', ..] => Some(Kind::Heat),
+            [b'c', ..] => Some(Kind::Call),
+            [b's', b'o', ..] => Some(Kind::Sounder),
+            [b's', ..] => Some(Kind::Smoke),
+            _ => None,
         }
     }
 }

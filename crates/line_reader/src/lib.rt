@@ -13,3 +13,4 @@ pub mod line;
 pub mod make;
 pub mod reader;
 pub mod site_input;
+mod text;

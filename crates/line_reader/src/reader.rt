@@ -2,7 +2,6 @@
 ghost use Rattle.std.specs.Prelude.{◌≡◌, min, ◌++◌, length, take, drop};
 ghost use Rattle.line_reader.specs.Exact.{NamesDecoded, ReadingsExact};
 ghost use Rattle.line_reader.specs.Reading.{decoded, reading, reading_of};
-ghost use Rattle.line_reader.specs.Worked.{WorkedLines};
 
 use crate::cursor::Cursor;
 use crate::fault::ReadFault;
@@ -13,12 +12,12 @@ use crate::line::Line;
 pub fn read_line<'a>(line: &'a [u8]) -> Result<Line<'a>, (ReadFault, usize)>
     ensures reads { reading_of result ≡ reading line.now }
     ensures exact { ReadingsExact }
-    ensures worked { WorkedLines }
 {
     let mut cursor = Cursor::new(line);
     let read = cursor.line();
     let column = line.len() - cursor.len();
-    read.map_err(|fault| (fault, column))
+    let said = read.map_err(|fault| (fault, column))?;
+    Ok(said)
 }
 
 // Writes the bytes that a name stands for, as many as there is room for, and answers their number. Into the caller's bytes: there is no heap.

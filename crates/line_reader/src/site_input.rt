@@ -1,22 +1,25 @@
 // The seal of a whole input of the program: a code byte, a key buffer, and the text of a site.
 ghost use Rattle.hashes.specs.Word.{Bytes};
+ghost use Rattle.line_reader.specs.AsMade.{InputsAsMade};
 ghost use Rattle.line_reader.specs.FamilyCodes.{scheme_of_family};
 ghost use Rattle.line_reader.specs.InputFaults.{seal_answer, text_answer};
 ghost use Rattle.line_reader.specs.SiteInput.{code_of, scheme_of, seal_by_scheme, input_answer};
+ghost use Rattle.line_reader.specs.WorkedInputs.{WorkedInputs};
 ghost use Rattle.line_reader.specs.WorkedSums.{WorkedSums};
 ghost use Rattle.std.specs.Prelude.{◌≡◌, length, replicate};
 
 use crate::family_code::FamilyCode;
 use crate::fault::{InputFault, MakeFault, Refusal};
-use crate::make::send_lines;
+use crate::text::send_text;
 use hashes::division::Division;
 use hashes::evaluation::Evaluation;
 use hashes::family::Family;
 use hashes::gather::Gather;
 use hashes::key_fault::KeyFault;
 use hashes::toeplitz::Toeplitz;
+use register::facts::register_facts;
 use register::framing::SEAL_FIELD_LEN;
-use register::register::{PAD_LEN, Register};
+use register::register::PAD_LEN;
 
 // The longest input.
 pub const LONGEST_INPUT: usize = 65_536;
@@ -28,16 +31,16 @@ fn seal_text<F: Family>(rest: &mut [u8]) -> Result<(usize, u64), MakeFault>
     let (buffer, text) = rest
         .split_at_mut_checked(F::key_len() + PAD_LEN)
         .ok_or(KeyFault::Length)?;
-    let mut register = Register::<F>::open(buffer)?;
-    send_lines(&mut register, text, &mut [])?;
-    let length = register.len() + SEAL_FIELD_LEN;
-    Ok((length, register.close()))
+    let (length, seal) = send_text::<F>(text, buffer, &mut [])?;
+    Ok((length + SEAL_FIELD_LEN, seal))
 }
 
 // Seals a text behind its key buffer by a family.
 fn seal_by_family(family: FamilyCode, rest: &mut [u8]) -> Result<(usize, u64), MakeFault>
     ensures { Bytes rest.old → text_answer result ≡ seal_by_scheme (scheme_of_family family) rest.old }
 {
+    // What the register promises of messages, for any family.
+    register_facts::<Division>();
     // Each arm names the function at its family: one switch for all that is done by family would need a trait with a struct and an `impl` for each.
     match family {
         FamilyCode::Division => seal_text::<Gather<Division>>(rest),
@@ -70,8 +73,14 @@ fn seal_parts(input: &mut [u8]) -> Result<(usize, u64), InputFault>
 pub fn seal_input(input: &mut [u8]) -> Result<(usize, u64), Refusal>
     ensures seals { result ≡ input_answer input.old }
     ensures cleared { input.new ≡ replicate (length input.old) 0 }
-    ensures worked { WorkedSums }
+    ensures as_made { InputsAsMade }
+    ensures sums { WorkedSums }
+    ensures inputs { WorkedInputs }
 {
+    // What the register promises, from which the clause on images follows.
+    register_facts::<Division>();
+    register_facts::<Toeplitz>();
+    register_facts::<Evaluation>();
     let sealed = seal_parts(input);
     input.fill(0);
     sealed.map_err(|fault| (fault.number(), fault.line_and_column()))

@@ -1,11 +1,12 @@
 -- From the check's way through an image to its verdict.
 use Rattle.std.proofs.Common.{◌≡◌, ℕ, ◌+◌, Bool, true, false, cond, eqb, List, [], length, Some, None, Ok, Err, Option, refl, ap, ◌∙◌, ap₂}
+use Rattle.std.proofs.lemmas.Bool.{eqb-true}
 use Rattle.hashes.specs.Family.{Meaning}
 use Rattle.hashes.specs.KeyFault.{judged}
 use Rattle.register.specs.declared.fault.ImageFault.{ImageFault}
 use Rattle.register.specs.Faults.{number_of_image_fault}
 use Rattle.register.specs.Image.{Outcome, compares, faulty, check}
-use Rattle.register.specs.View.{View, standing, seal, opening, key_of, pad_of}
+use Rattle.register.specs.View.{View, standing, seal, opening, pad_length, key_of, pad_of}
 use Rattle.register.specs.Check.{says, faulted, verdict, checked, checked_by}
 use Rattle.register.specs.Walking.{Answers}
 
@@ -20,8 +21,15 @@ sized_is false v w o e = absurd cc
 
 -- a buffer that opens has the right length, holds a key, and gives a register that took no record
 pub opened_parts : (M : Meaning) (buffer : List ℕ) (v : View M) → Ok v ≡ opening M buffer
-    → (eqb (length buffer) (M.key_len + 8) ≡ true) × (v ≡ standing M (key_of M buffer) (pad_of M buffer) []) × (M.refusal (key_of M buffer) ≡ None)
-opened_parts M buffer v e = sized_is (eqb (length buffer) (M.key_len + 8)) v _ (M.refusal (key_of M buffer)) e
+    → (eqb (length buffer) (M.key_len + pad_length) ≡ true)
+    × (v ≡ standing M (key_of M buffer) (pad_of M buffer) []) × (M.refusal (key_of M buffer) ≡ None)
+opened_parts M buffer v e =
+    sized_is (eqb (length buffer) (M.key_len + pad_length)) v _ (M.refusal (key_of M buffer)) e
+
+pub opened_key : (M : Meaning) (buffer : List ℕ) (v : View M) → Ok v ≡ opening M buffer
+    → (length buffer ≡ M.key_len + pad_length) × (M.refusal (key_of M buffer) ≡ None)
+opened_key M buffer v e = let o =
+    opened_parts M buffer v e in (eqb-true (length buffer) (M.key_len + pad_length) o.0, o.2)
 
 pub opened_is : (M : Meaning) (buffer : List ℕ) (v : View M) → Ok v ≡ opening M buffer → v ≡ standing M (key_of M buffer) (pad_of M buffer) []
 opened_is M buffer v e = (opened_parts M buffer v e).1

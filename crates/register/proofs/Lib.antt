@@ -2,7 +2,6 @@ pub mod Bytes
 pub mod Encoding
 pub mod Firsts
 pub mod Rows
-pub mod Results
 pub mod Runs
 pub mod Images
 pub mod ImageMessages
@@ -14,3 +13,4 @@ pub mod Passing
 pub mod Bounds
 pub mod LongNames
 pub mod Writings
+pub mod WorkedRows

@@ -57,13 +57,16 @@ pub taken_length : (before rs : List Record) → TakenAfter before rs → length
 taken_length before [] h l = rw append-nil l
 taken_length before (r ∷ rs) h l = rw append_assoc at (taken_length (before ++ (r ∷ [])) rs h.1 (accepted_length before r h.0))
 
+pub book_fits : (rs : List Record) → BookRecords rs → length (message rs) ≤ longest_message
+book_fits rs b = taken_length [] rs b (omega arith)
+
 -- the records of a new register, after any calls
 pub run_book : (bs : List Input) (answers : List Reply) (rs : List Record) → Run [] bs answers rs → BookRecords rs × (length (message rs) ≤ longest_message)
 run_book bs answers rs h =
     let t = run_takes [] bs answers rs h in
     let e : rs ≡ t.0 = t.1 in
     let b : BookRecords rs = rw e t.2 in
-    (b, taken_length [] rs b (omega arith))
+    (b, book_fits rs b)
 
 -- one call more
 pub runs_extend : (before : List Record) (inputs : List Input) (input : Input) →

@@ -1,6 +1,6 @@
 -- A call on a register that took records is a step of a run.
 use Rattle.std.proofs.Common.{◌≡◌, ℕ, List, [], ◌∷◌, ◌++◌, Some, None, Option, sym, refl, ap, ◌∙◌, subst, ap₂, append-nil}
-use Rattle.hashes.proofs.Absorbed.{absorbed_append}
+use Rattle.std.proofs.lemmas.List.Sums.{fold-append}
 use Rattle.hashes.specs.Family.{Meaning, absorbed}
 use Rattle.register.specs.declared.fault.RecordFault.{RecordFault}
 use Rattle.register.specs.Faults.{number_of_record_fault}
@@ -30,7 +30,8 @@ module _ (M : Meaning) (key : List ℕ) (pad : ℕ) (rs : List Record) where
   standing_push : (r : Record) → after_by M (standing M key pad rs) r None ≡ standing M key pad (rs ++ (r ∷ []))
   standing_push r =
       ap₂ (λ (s : M.State) (k : Known). record { state = s; pad = pad; known = k })
-      (sym (absorbed_append M (M.first key) (message rs) (bytes_of (field_of r))) ∙ ap (absorbed M (M.first key)) (sym (message_push rs r))) (known_push rs r)
+      (sym (fold-append M.next (M.first key) (message rs) (bytes_of (field_of r)))
+      ∙ ap (absorbed M (M.first key)) (sym (message_push rs r))) (known_push rs r)
 
   -- a call that was refused, and one that was taken
   module _ (r : Record) (v : View M) (stands : v ≡ standing M key pad rs) where

@@ -1,9 +1,8 @@
 -- Fields written after a message.
-use Rattle.std.proofs.Common.{◌≡◌, ℕ, ◌+◌, ◌-◌, ◌≤◌, cond, List, [], ◌∷◌, ◌++◌, length, take, drop, replicate, Some, None, Option, sym, refl, ap, ◌∙◌, append_assoc, arith, length-append, length-drop, length-take-le}
+use Rattle.std.proofs.Common.{◌≡◌, ℕ, ◌+◌, ◌-◌, ◌≤◌, cond, List, [], ◌∷◌, ◌++◌, length, take, drop, replicate, Some, None, Option, sym, refl, ap, ◌∙◌, append_assoc, arith, length-append}
 use lib.ListN.{length-replicate}
-use lib.Seq.{drop-append-add, paste}
+use lib.Seq.{drop-append-add}
 use Rattle.std.proofs.lemmas.List.{take_at, drop-replicate}
-use Rattle.std.proofs.lemmas.List.Edits.{paste_all, paste-paste}
 use Rattle.std.proofs.lemmas.Bool.{le-leb}
 use Rattle.hashes.specs.Family.{Meaning}
 use Rattle.register.specs.declared.fault.RecordFault.{RecordFault}
@@ -61,24 +60,3 @@ outputs_follow M key pad room before (a_record r) out holds = go (first_fault be
     go (Some f) = holds
 outputs_follow M key pad room before no_record out holds = holds
 outputs_follow M key pad room before (unread n column) out holds = holds
-
-length_written : (out : List ℕ) (at : ℕ) (xs : List ℕ) → at + length xs ≤ length out → length (written out at xs) ≡ length out
-length_written out at xs h =
-    let a = length-append (take at out) (xs ++ drop (at + length xs) out) in
-    let b = length-append xs (drop (at + length xs) out) in
-    let c = length-take-le at out (omega arith) in
-    let d = length-drop (at + length xs) out in
-    omega (arith, a, b, c, d)
-
-pub put_twice : (out : List ℕ) (at : ℕ) (xs ys : List ℕ) → at + (length xs + length ys) ≤ length out → put (put out at xs) (at + length xs) ys ≡ put out at (xs ++ ys)
-put_twice out at xs ys h =
-    let l = length-append xs ys in
-    let n = length_written out at xs (omega arith) in
-    ap (λ o. put o (at + length xs) ys) (put_fits out at xs (omega arith))
-    ∙ put_fits (written out at xs) (at + length xs) ys (omega (arith, n))
-    ∙ ap (λ o. written o (at + length xs) ys) (sym (paste_all out at xs (length xs) refl))
-    ∙ sym (paste_all (paste out at xs (length xs)) (at + length xs) ys (length ys) refl)
-    ∙ paste-paste out at xs ys (length xs) (length ys) refl refl (omega arith)
-    ∙ paste_all out at (xs ++ ys) (length xs + length ys) (sym l)
-    ∙ ap (λ k. take at out ++ ((xs ++ ys) ++ drop (at + k) out)) (sym l)
-    ∙ sym (put_fits out at (xs ++ ys) (omega (arith, l)))

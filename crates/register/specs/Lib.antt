@@ -15,7 +15,10 @@ pub mod Image
 pub mod ImageMessage
 pub mod Check
 pub mod Facts
+pub mod RowExamples
 -- From here on definitions that contracts of private functions alone cite.
 pub mod Encoded
 pub mod FieldPlaces
 pub mod Walking
+-- Lemmas on results, for proofs of this crate and of those above it.
+pub mod Results

@@ -53,7 +53,11 @@ seal M v = bit_xor (M.close v.state) v.pad
 abbrev pub sealed : Meaning → List ℕ → ℕ → List Record → ℕ
 sealed M key pad rs = bit_xor (hash M key (message rs)) pad
 
--- a key buffer is a key, and then eight pad bytes
+-- the length of the pad, which stands behind the key in a key buffer
+abbrev pub pad_length : ℕ
+pad_length = 8
+
+-- a key buffer is a key, and then the pad
 abbrev pub key_of : Meaning → List ℕ → List ℕ
 key_of M buffer = take M.key_len buffer
 
@@ -63,4 +67,6 @@ pad_of M buffer = word (drop M.key_len buffer)
 -- what opening a key buffer answers: a register that took no record, or the number of a refusal
 abbrev pub opening : (M : Meaning) → List ℕ → Answer (View M)
 opening M buffer =
-    cond (length buffer == M.key_len + 8) (judged (standing M (key_of M buffer) (pad_of M buffer) []) (M.refusal (key_of M buffer))) (Err 1)
+    cond (length buffer == M.key_len + pad_length)
+    (judged (standing M (key_of M buffer) (pad_of M buffer) []) (M.refusal (key_of M buffer)))
+    (Err 1)

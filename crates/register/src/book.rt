@@ -1,22 +1,26 @@
 // The site book: which zones and points are declared, and how long the message is.
+ghost use Rattle.register.specs.Book.{longest_message};
 ghost use Rattle.std.specs.Prelude.{◌≤◌};
 
 use crate::entries::Entries;
 use crate::fault::RecordFault;
+use crate::limits::{LONGEST_MESSAGE, POINTS, ZONES};
 use crate::record::SiteRecord;
 use crate::sound::SoundRecord;
 
-// How long a message may be.
-const LONGEST_MESSAGE: usize = 60_000;
+// Numbers begin at 1, so the entry at 0 stays without a declaration.
+const ZONE_ENTRIES: usize = ZONES as usize + 1;
+
+const POINT_ENTRIES: usize = POINTS as usize + 1;
 
 // No `impl Model`: its value would be `Known`, which holds functions. A value needs a code, and no function has one.
 #[derive(Drop)]
 pub(crate) struct Book {
-    zones: Entries<251>,
-    points: Entries<1001>,
+    zones: Entries<ZONE_ENTRIES>,
+    points: Entries<POINT_ENTRIES>,
     // The length of the message.
     len: usize,
-    ghost within: { len ≤ 60000 },
+    ghost within: { len ≤ longest_message },
 }
 
 impl Book {
@@ -39,7 +43,8 @@ impl Book {
 
     // The length of the message.
     pub(crate) fn len(&self) -> usize
-        ensures { result ≡ (known_in self.now).bytes }
+        ensures bytes { result ≡ (known_in self.now).bytes }
+        ensures within { result ≤ longest_message }
     {
         self.len
     }
@@ -98,7 +103,7 @@ impl Book {
 
     // Enters a record that no row refuses.
     pub(crate) fn enter(&mut self, sound: &SoundRecord)
-        requires room { (known_in self.old).bytes + field_length sound.now ≤ 60000 }
+        requires room { (known_in self.old).bytes + field_length sound.now ≤ longest_message }
         ensures { known_in self.new ≡ with_record (known_in self.old) sound.now }
     {
         self.declare(sound);

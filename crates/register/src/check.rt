@@ -8,8 +8,9 @@ ghost use Rattle.std.specs.Prelude.{◌≡◌, ◌+◌, ◌-◌, ◌≤◌, ◌�
 
 use crate::fault::{ImageFault, ImageRefusal};
 use crate::framing::Field;
-use crate::image::{Reader, record_in, seal_in};
+use crate::image::{Reader, record_in};
 use crate::register::Register;
+use crate::seal_field::seal_in;
 use hashes::family::Family;
 
 // What a field that is no record's comes to, where a family of this code reads it: its seal, or a fault and its offset. The code is a byte, as in the

@@ -1,11 +1,15 @@
 // The fields of records: handed to a family, and written into an output.
 ghost use Rattle.hashes.specs.Family.{absorbed};
+ghost use Rattle.register.specs.Book.{longest_message};
 ghost use Rattle.register.specs.Encoded.{encoded_bytes};
 ghost use Rattle.register.specs.Records.{bytes_of, field_of, two_bytes};
 ghost use Rattle.register.specs.Writing.{put};
-ghost use Rattle.std.specs.Prelude.{◌≡◌, ◌<◌};
+ghost use Rattle.std.specs.Prelude.{◌≡◌, ◌<◌, ◌≤◌};
 
-use crate::framing::{POINT_TAG, RULE_TAG, ZONE_TAG};
+use crate::framing::{
+    POINT_FIELD_LEN, POINT_TAG, POINT_VALUE_LEN, RULE_FIELD_LEN, RULE_TAG, RULE_VALUE_LEN,
+    ZONE_HEAD_LEN, ZONE_NUMBER_LEN, ZONE_TAG,
+};
 use crate::output::put_bytes;
 use crate::record::SiteRecord;
 use crate::sound::SoundRecord;
@@ -15,11 +19,11 @@ use hashes::family::Family;
 #[derive(Clone, Copy, Debug, PartialEq, Eq)]
 enum EncodedField<'a> {
     // A zone's, but for the name, and the name.
-    Zone([u8; 5], &'a [u8]),
+    Zone([u8; ZONE_HEAD_LEN], &'a [u8]),
     // A point's.
-    Point([u8; 8]),
+    Point([u8; POINT_FIELD_LEN]),
     // A rule's.
-    Rule([u8; 7]),
+    Rule([u8; RULE_FIELD_LEN]),
 }
 
 // A number below 65,536 as two bytes, highest first.
@@ -37,17 +41,29 @@ impl<'a> From<&SoundRecord<'a>> for EncodedField<'a> {
         match sound.site {
             SiteRecord::Zone { number, name } => {
                 let [hi, lo] = two_bytes(number);
-                EncodedField::Zone([ZONE_TAG, 0, 2 + name.len() as u8, hi, lo], name)
+                EncodedField::Zone(
+                    [ZONE_TAG, 0, ZONE_NUMBER_LEN + name.len() as u8, hi, lo],
+                    name,
+                )
             }
             SiteRecord::Point { number, zone, kind } => {
                 let [hi, lo] = two_bytes(number);
                 let [zone_hi, zone_lo] = two_bytes(zone);
-                EncodedField::Point([POINT_TAG, 0, 5, hi, lo, zone_hi, zone_lo, kind])
+                EncodedField::Point([
+                    POINT_TAG,
+                    0,
+                    POINT_VALUE_LEN,
+                    hi,
+                    lo,
+                    zone_hi,
+                    zone_lo,
+                    kind,
+                ])
             }
             SiteRecord::Rule { zone, point } => {
                 let [zone_hi, zone_lo] = two_bytes(zone);
                 let [hi, lo] = two_bytes(point);
-                EncodedField::Rule([RULE_TAG, 0, 4, zone_hi, zone_lo, hi, lo])
+                EncodedField::Rule([RULE_TAG, 0, RULE_VALUE_LEN, zone_hi, zone_lo, hi, lo])
             }
         }
     }
@@ -70,20 +86,25 @@ pub(crate) fn send<F: Family>(family: &mut F, sound: &SoundRecord)
     }
 }
 
-// Writes the field of a record at a place of an output, where there is room for all of it. Inlined, it costs a call without an output one test.
+// Writes the field of a record at a place of an output, where there is room for all of it. Inlined,
+// as `send` is.
 #[inline(always)]
 pub(crate) fn put_field(out: &mut [u8], at: usize, sound: &SoundRecord)
+    requires { at ≤ longest_message }
     ensures { out.new ≡ put out.old at (bytes_of (field_of sound.now)) }
 {
-    // One test for the whole field, since no part of it may be written.
-    if at <= out.len() && sound.field_length() <= out.len() - at {
-        match EncodedField::from(sound) {
-            EncodedField::Zone(head, name) => {
+    match EncodedField::from(sound) {
+        EncodedField::Zone(head, name) => {
+            // The name first: where there is room for it, there is for what stands before it.
+            if put_bytes(out, at + ZONE_HEAD_LEN, name) {
                 put_bytes(out, at, &head);
-                put_bytes(out, at + 5, name);
             }
-            EncodedField::Point(bytes) => put_bytes(out, at, &bytes),
-            EncodedField::Rule(bytes) => put_bytes(out, at, &bytes),
+        }
+        EncodedField::Point(bytes) => {
+            put_bytes(out, at, &bytes);
+        }
+        EncodedField::Rule(bytes) => {
+            put_bytes(out, at, &bytes);
         }
     }
 }

@@ -10,10 +10,28 @@ pub(crate) const RULE_TAG: u8 = 3;
 
 pub const SEAL_TAG: u8 = 0x53;
 
+// The length of what stands before the value of a field: the tag and two length bytes.
+pub(crate) const HEAD_LEN: usize = 3;
+
+// The length of a zone's number, which begins the value of its field, and of the values of a point
+// and a rule.
+pub(crate) const ZONE_NUMBER_LEN: u8 = 2;
+
+pub(crate) const POINT_VALUE_LEN: u8 = 5;
+
+pub(crate) const RULE_VALUE_LEN: u8 = 4;
+
+// The length of a zone's field up to its name, and of the whole fields of a point and a rule.
+pub(crate) const ZONE_HEAD_LEN: usize = HEAD_LEN + ZONE_NUMBER_LEN as usize;
+
+pub(crate) const POINT_FIELD_LEN: usize = HEAD_LEN + POINT_VALUE_LEN as usize;
+
+pub(crate) const RULE_FIELD_LEN: usize = HEAD_LEN + RULE_VALUE_LEN as usize;
+
 // The length of a seal field's value, a code and a seal, and of the whole field.
 pub const SEAL_VALUE_LEN: u8 = 9;
 
-pub const SEAL_FIELD_LEN: usize = 12;
+pub const SEAL_FIELD_LEN: usize = HEAD_LEN + SEAL_VALUE_LEN as usize;
 
 // A field of an image: its tag, and where its value stands. By place and length and not as a slice, since a refusal answers the field's offset, and so
 // that fields are taken from any image in one way.
@@ -47,7 +65,7 @@ impl Field {
         }
         Some(Field {
             tag: *tag,
-            place: at + 3,
+            place: at + HEAD_LEN,
             length,
         })
     }
@@ -56,7 +74,7 @@ impl Field {
     pub(crate) fn start(&self) -> usize
         ensures { result + 3 ≡ self.now.place }
     {
-        self.place - 3
+        self.place - HEAD_LEN
     }
 
     // Where the field ends.

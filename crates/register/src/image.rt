@@ -2,11 +2,10 @@
 ghost use Rattle.std.specs.Prelude.{◌≡◌, ◌+◌, ◌-◌, ◌*◌, ◌≤◌, length};
 ghost use Rattle.std.specs.Iterator.{at_most};
 ghost use Rattle.std.specs.Option.{option_map};
-ghost use Rattle.register.specs.FieldPlaces.{ReadsNext, ReadsRecord, place_of, seal_in};
+ghost use Rattle.register.specs.FieldPlaces.{ReadsNext, ReadsRecord, place_of};
 
-use crate::framing::{Field, POINT_TAG, RULE_TAG, SEAL_TAG, ZONE_TAG};
+use crate::framing::{Field, POINT_TAG, RULE_TAG, ZONE_TAG};
 use crate::record::SiteRecord;
-use hashes::word::word_of;
 
 // Goes through an image field by field.
 #[derive(Drop)]
@@ -67,16 +66,6 @@ pub(crate) fn record_in(tag: u8, value: &[u8]) -> Option<SiteRecord>
             zone: number(*a, *b),
             point: number(*c, *d),
         }),
-        _ => None,
-    }
-}
-
-// The code and the seal that a field holds, if it is a seal field. The code is a byte, since an image may have any here.
-pub(crate) fn seal_in(tag: u8, value: &[u8]) -> Option<(u8, u64)>
-    ensures { result ≡ seal_in tag value.now }
-{
-    match (tag, value) {
-        (SEAL_TAG, [code, seal @ ..]) => Some((*code, word_of(seal)?)),
         _ => None,
     }
 }

@@ -46,9 +46,11 @@ impl Drop for KeyGuard<'_> {
 fn from_key<F: Family>(buffer: &[u8]) -> Result<Register<F>, KeyFault>
     ensures { opened (view F.meaning F.state) result ≡ opening F.meaning buffer.now }
 {
-    let (key, pad) = buffer
-        .split_at_checked(F::key_len())
-        .ok_or(KeyFault::Length)?;
+    // No overflow: by the law of a family a key is short.
+    if buffer.len() != F::key_len() + PAD_LEN {
+        return Err(KeyFault::Length);
+    }
+    let (key, pad) = buffer.split_at(F::key_len());
     let pad = word_of(pad).ok_or(KeyFault::Length)?;
     let family = F::open(key)?;
     Ok(Register {

@@ -1,24 +1,17 @@
 // Records that fit their fields: their numbers are in range, and a panel can show their name.
+ghost use Rattle.register.specs.Book.{longest_name};
 ghost use Rattle.register.specs.Known.{name_byte, name_fault, range_fault, zone_name};
 ghost use Rattle.register.specs.Known.{within as between};
 ghost use Rattle.register.specs.Records.{field_length};
 ghost use Rattle.register.specs.Values.{record_of};
 ghost use Rattle.std.specs.List.{list_all};
-ghost use Rattle.std.specs.Prelude.{◌≡◌, ◌≤◌};
+ghost use Rattle.std.specs.Prelude.{◌≡◌, ◌+◌, ◌≤◌};
 
 use crate::fault::RecordFault;
+use crate::framing::{POINT_FIELD_LEN, RULE_FIELD_LEN, ZONE_HEAD_LEN};
+use crate::limits::{KINDS, LONGEST_NAME, POINTS, ZONES};
 use crate::record::SiteRecord;
 use std::marker::Model;
-
-// Zones, points and kinds are numbered from 1 up to these.
-const ZONES: u32 = 250;
-
-const POINTS: u32 = 1000;
-
-const KINDS: u32 = 4;
-
-// How many bytes a name may have.
-const LONGEST_NAME: usize = 40;
 
 // A record whose numbers are in range, with a name that a panel can show.
 // Neither `Copy` nor `PartialEq`: they need the fields back from the value, and a list of bytes gives no slice back.
@@ -114,12 +107,12 @@ impl SoundRecord<'_> {
     // How many bytes the record adds to the message.
     pub(crate) fn field_length(&self) -> usize
         ensures long { result ≡ field_length self.now }
-        ensures short { result ≤ 45 }
+        ensures short { result ≤ 5 + longest_name }
     {
         match self.site {
-            SiteRecord::Zone { name, .. } => 5 + name.len(),
-            SiteRecord::Point { .. } => 8,
-            SiteRecord::Rule { .. } => 7,
+            SiteRecord::Zone { name, .. } => ZONE_HEAD_LEN + name.len(),
+            SiteRecord::Point { .. } => POINT_FIELD_LEN,
+            SiteRecord::Rule { .. } => RULE_FIELD_LEN,
         }
     }
 }

@@ -1,75 +1,63 @@
--- A buffer that opens, the lines sent, and the seal field after the message.
-use Rattle.std.proofs.Common.{◌≡◌, ℕ, ◌+◌, ◌<◌, List, [], ◌∷◌, length, get_or, Ok, Err, Result, sym, ap, ◌∙◌, ap₂, arith}
+-- The text is refused, or its image has no room, or the seal field comes behind the message.
+use Rattle.std.proofs.Common.{◌≡◌, ℕ, ◌+◌, ◌<◌, ◌≤◌, List, length, Ok, Err, Result, sym, ap, ap₂, ◌∙◌, arith, replicate}
 use Rattle.std.specs.Int.{bytes_high_first}
+use Rattle.std.proofs.lemmas.Bool.{leb-false, leb-true}
 use Rattle.std.proofs.lemmas.Result.{err_from_is_err_and}
 use Rattle.register.specs.Image.{seal_field}
-use Rattle.register.specs.Records.{bytes_of, message}
-use Rattle.register.specs.View.{View, key_of, pad_of, seal, sealed}
+use Rattle.register.specs.Records.{bytes_of}
 use Rattle.register.specs.Writing.{put}
-use Rattle.register.proofs.Checked.{opened_is}
 use Rattle.line_reader.specs.declared.fault.MakeFault.{MakeFault}
-use Rattle.line_reader.specs.Making.{Making, unmade}
+use Rattle.line_reader.specs.Making.{Making}
 use Rattle.line_reader.specs.Sending.{wiped}
-use Rattle.line_reader.proofs.Makings.{making_fits, making_full, opened_made}
+use Rattle.line_reader.proofs.Makings.{making_done, making_no_room, making_refused}
 use Rattle.line_reader.proofs.make.build.Goals as goal
-use Rattle.line_reader.proofs.make.build.Goals.{then-at-out-via-then-at-out, then-at-out-via-else-at-out+then-out-at-lt-SEAL_FIELD_LEN}
 
 -- a refusal leaves zeros, by the room
-abbrev unmade_in : ℕ → ℕ → ℕ → ℕ → Making
-unmade_in number line column room = unmade room number line column
+abbrev refused_in : ℕ → ℕ × ℕ → ℕ → Making
+refused_in number place room = (Err (number, place), replicate room 0)
 
-pub returns-in_err-send_lines-clause-makes : goal.returns-in_err-send_lines-clause-makes
-returns-in_err-send_lines-clause-makes g c =
+pub returns-in_err-length-clause-makes : goal.returns-in_err-length-clause-makes
+returns-in_err-length-clause-makes g c =
     let M = g.F.Family.meaning in
-    let buffer = c.args.buffer.now in
-    let text = c.args.text.now in
-    let room = length c.args.out.now in
-    let o = c.in_ok-register.ensures.opens in
-    let s = c.in_err-send_lines.ensures.sends (key_of M buffer) (pad_of M buffer) (opened_is M buffer _ o) c.requires in
-    let kept : length c.send_lines.new.out ≡ room = omega arith in
-    let p = err_from_is_err_and c.from_residual-in_err-send_lines.result c.from_residual-in_err-send_lines.ensures.1 in
-    ap (λ (r : Result ℕ MakeFault). wiped r c.send_lines.new.out) (p.1 ∙ ap Err p.2)
-    ∙ ap (unmade_in _ _ _) kept
-    ∙ sym (opened_made M buffer text room _ _ o s)
+    let out = c.send_text.new.out in
+    let kept : length out ≡ length c.args.out.now = omega arith in
+    let p = err_from_is_err_and c.from_residual.result c.from_residual.ensures.1 in
+    ap (λ (r : Result ℕ MakeFault). wiped r out) (p.1 ∙ ap Err p.2)
+    ∙ ap (refused_in _ _) kept
+    ∙ sym (making_refused M c.args.buffer.now c.args.text.now (length c.args.out.now) _ _
+    (c.in_err-length.ensures.sends.sends c.requires))
 
-pub returns-then-at-out-clause-makes : goal.returns-then-at-out-clause-makes
-returns-then-at-out-clause-makes g c =
+pub returns-then-not-put_bytes-clause-makes : goal.returns-then-not-put_bytes-clause-makes
+returns-then-not-put_bytes-clause-makes g c =
     let M = g.F.Family.meaning in
-    let buffer = c.args.buffer.now in
-    let text = c.args.text.now in
-    let room = length c.args.out.now in
-    let at = c.len-at.result in
-    let o = c.in_ok-register.ensures.opens in
-    let s = c.in_ok-send_lines.ensures.sends (key_of M buffer) (pad_of M buffer) (opened_is M buffer _ o) c.requires in
-    let kept : length c.send_lines.new.out ≡ room = omega arith in
-    let bytes : at ≡ length (message s.0) = c.len-at.ensures ∙ ap (λ (u : View M). u.known.bytes) s.2 in
-    let full : room < at + 12 =
-    elim c.then-at-out.branch [
-      | then-at-out-via-then-at-out w ↦ omega (arith, w.if-at-out.true, kept)
-      | then-at-out-via-else-at-out+then-out-at-lt-SEAL_FIELD_LEN w ↦ omega (arith, w.if-at-out.false, w.if-out-at-lt-SEAL_FIELD_LEN.true, kept)
-    ] in
-    ap (unmade_in 50 0 0) kept
-    ∙ sym (opened_made M buffer text room _ _ o s.1 ∙ making_full M (key_of M buffer) (pad_of M buffer) room s.0 (omega (arith, full, bytes)))
+    let out = c.send_text.new.out in
+    let kept : length out ≡ length c.args.out.now = omega arith in
+    let left : length c.put_bytes.new.out ≡ length c.args.out.now = omega arith in
+    let field = ap length c.seal_bytes.ensures in
+    let full =
+    leb-false (c.in_ok-length.length + length c.seal_bytes.result) (length out)
+    (sym c.put_bytes.ensures.fits ∙ c.if-not-put_bytes.true) in
+    ap (refused_in 50 (0, 0)) left
+    ∙ sym (
+    making_no_room M c.args.buffer.now c.args.text.now out
+    (length c.args.out.now) c.in_ok-length.length c.in_ok-length.seal
+    (c.in_ok-length.ensures.sends.sends c.requires) (omega (arith, full, field, kept))
+    )
 
 pub returns-clause-makes : goal.returns-clause-makes
 returns-clause-makes g c =
     let M = g.F.Family.meaning in
-    let buffer = c.args.buffer.now in
-    let text = c.args.text.now in
-    let room = length c.args.out.now in
-    let at = c.len-at.result in
-    let o = c.in_ok-register.ensures.opens in
-    let s = c.in_ok-send_lines.ensures.sends (key_of M buffer) (pad_of M buffer) (opened_is M buffer _ o) c.requires in
-    let kept : length c.send_lines.new.out ≡ room = omega arith in
-    let bytes : at ≡ length (message s.0) = c.len-at.ensures ∙ ap (λ (u : View M). u.known.bytes) s.2 in
-    let b = c.to_be_bytes.result in
-    let f : List ℕ = 0x53 ∷ 0 ∷ 9 ∷ c.code.result ∷ get_or b 0 0 ∷ get_or b 1 0 ∷ get_or b 2 0 ∷ get_or b 3 0 ∷ get_or b 4 0 ∷ get_or b 5 0 ∷ get_or b 6 0 ∷ get_or b 7 0 ∷ [] in
-    let sealing : c.close.result ≡ sealed M (key_of M buffer) (pad_of M buffer) s.0 = c.close.ensures ∙ ap (seal M) s.2 in
-    let field : f ≡ bytes_of (seal_field M.code (bytes_high_first 8 (sealed M (key_of M buffer) (pad_of M buffer) s.0))) =
-    rw (c.to_be_bytes.ensures, c.code.ensures, sealing) in
-    let putting : c.put_bytes.new.out ≡ put c.send_lines.new.out (length (message s.0)) (bytes_of (seal_field M.code (bytes_high_first 8 (sealed M (key_of M buffer) (pad_of M buffer) s.0)))) =
-    c.put_bytes.ensures ∙ ap₂ (λ (n : ℕ) (x : List ℕ). put c.send_lines.new.out n x) bytes field in
-    ap (λ (n : ℕ). wiped (Ok (n + 12)) c.put_bytes.new.out) bytes
-    ∙ making_fits M (key_of M buffer) (pad_of M buffer) room s.0 c.send_lines.new.out _ s.3
-    (omega (arith, bytes, kept, c.if-at-out.false, c.if-out-at-lt-SEAL_FIELD_LEN.false)) putting
-    ∙ sym (opened_made M buffer text room _ _ o s.1)
+    let out = c.send_text.new.out in
+    let kept : length out ≡ length c.args.out.now = omega arith in
+    let field = ap length c.seal_bytes.ensures in
+    let room =
+    leb-true (c.in_ok-length.length + length c.seal_bytes.result) (length out)
+    (sym c.put_bytes.ensures.fits ∙ c.if-not-put_bytes.false) in
+    sym (
+    making_done M c.args.buffer.now c.args.text.now out
+    (length c.args.out.now) c.in_ok-length.length c.in_ok-length.seal
+    (c.in_ok-length.ensures.sends.sends c.requires) c.register_facts.ensures.facts c.put_bytes.new.out (omega (arith, room, field, kept))
+    (c.put_bytes.ensures.writes ∙ ap (put out c.in_ok-length.length) (c.seal_bytes.ensures
+    ∙ ap (λ (k : ℕ).
+    bytes_of (seal_field k (bytes_high_first 8 c.in_ok-length.seal))) c.code.ensures))
+    )

@@ -8,3 +8,6 @@ overflow_sub-column c = omega (arith, whole_less c.new-cursor.result, ap length 
 
 pub returns-clause-exact : goal.returns-clause-exact
 returns-clause-exact c = readings_exact
+
+pub returns-in_err-said-clause-exact : goal.returns-in_err-said-clause-exact
+returns-in_err-said-clause-exact c = readings_exact

@@ -7,10 +7,21 @@ use Rattle.line_reader.proofs.SiteSeals.{division_agrees, evaluation_agrees, toe
 use Rattle.line_reader.proofs.site_input.seal_by_family.Goals as goal
 
 pub returns-in-Division : goal.returns-in-Division
-returns-in-Division c bytes = c.seal_text.ensures ∙ division_agrees c.args.rest.now bytes ∙ ap (λ (f : FamilyCode). seal_by_scheme (scheme_of_family f) c.args.rest.now) (sym c.in-Division.is)
+returns-in-Division c bytes =
+    c.seal_text.ensures ∙ division_agrees c.register_facts.ensures.facts c.args.rest.now bytes
+    ∙ ap (λ (f : FamilyCode). seal_by_scheme (scheme_of_family f) c.args.rest.now)
+    (sym c.in-Division.is)
 
 pub returns-in-Toeplitz : goal.returns-in-Toeplitz
-returns-in-Toeplitz c bytes = c.seal_text-in-Toeplitz.ensures ∙ toeplitz_agrees c.args.rest.now bytes ∙ ap (λ (f : FamilyCode). seal_by_scheme (scheme_of_family f) c.args.rest.now) (sym c.in-Toeplitz.is)
+returns-in-Toeplitz c bytes =
+    c.seal_text-in-Toeplitz.ensures
+    ∙ toeplitz_agrees c.register_facts.ensures.facts c.args.rest.now bytes
+    ∙ ap (λ (f : FamilyCode). seal_by_scheme (scheme_of_family f) c.args.rest.now)
+    (sym c.in-Toeplitz.is)
 
 pub returns-in-Evaluation : goal.returns-in-Evaluation
-returns-in-Evaluation c bytes = c.seal_text-in-Evaluation.ensures ∙ evaluation_agrees c.args.rest.now bytes ∙ ap (λ (f : FamilyCode). seal_by_scheme (scheme_of_family f) c.args.rest.now) (sym c.in-Evaluation.is)
+returns-in-Evaluation c bytes =
+    c.seal_text-in-Evaluation.ensures
+    ∙ evaluation_agrees c.register_facts.ensures.facts c.args.rest.now bytes
+    ∙ ap (λ (f : FamilyCode). seal_by_scheme (scheme_of_family f) c.args.rest.now)
+    (sym c.in-Evaluation.is)

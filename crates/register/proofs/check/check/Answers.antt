@@ -6,7 +6,7 @@ use Rattle.register.specs.View.{key_of, pad_of}
 use Rattle.hashes.specs.Bytes.{typed_bytes}
 use Rattle.register.proofs.Checked.{opened_is, check_says, check_faults}
 use Rattle.register.proofs.Passing.{verdict_passes}
-use Rattle.register.proofs.Results.{mapped_ok}
+use Rattle.register.specs.Results.{mapped_ok}
 use Rattle.register.proofs.check.check.Goals as goal
 
 pub returns-in_err-seal-clause-answers : goal.returns-in_err-seal-clause-answers

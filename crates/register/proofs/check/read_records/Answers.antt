@@ -4,7 +4,7 @@ use Rattle.register.specs.declared.fault.ImageFault.TheVariants.{Record as Fault
 use Rattle.register.specs.FieldPlaces.{place_at, place_of}
 use Rattle.register.specs.Values.{record_of, view}
 use Rattle.register.specs.View.{reply_of}
-use Rattle.register.proofs.Results.{mapped_err, mapped_ok}
+use Rattle.register.specs.Results.{mapped_err, mapped_ok}
 use Rattle.register.proofs.Walk.{gives, next_start, walk_ends, walk_refused, walk_seal, walk_taken}
 use Rattle.register.proofs.check.read_records.Goals as goal
 

@@ -7,7 +7,7 @@ use Rattle.std.proofs.lemmas.List.Sums.{prefix_len-le-length}
 use Rattle.std.proofs.lemmas.Simd.{bitmask_splat, length-chunk}
 use lib.Lanes.{chunk}
 use Rattle.line_reader.proofs.Cuts.{first_in_mask, place_or_length}
-use Rattle.line_reader.proofs.make.line_len.Goals as goal
+use Rattle.line_reader.proofs.text.line_len.Goals as goal
 
 pub returns-then-feeds-ne0 : goal.returns-then-feeds-ne0
 returns-then-feeds-ne0 c =

@@ -2,7 +2,7 @@
 use Rattle.std.proofs.Common.{ℕ, not, eqb, refl, rules, arith}
 use Rattle.std.proofs.lemmas.List.Sums.{prefix_len-le-length}
 use Rattle.line_reader.proofs.Cuts.{after_first, takes_line}
-use Rattle.line_reader.proofs.make.LinesIterator.next.Goals as goal
+use Rattle.line_reader.proofs.text.LinesIterator.next.Goals as goal
 
 pub split_at-requires : goal.split_at-requires
 split_at-requires c = omega (arith, c.line_len.ensures, prefix_len-le-length (λ (b : ℕ). not (eqb b 10)) c.args.self.now.rest.now)
