@@ -1,28 +1,34 @@
-// Reads a code byte, a key buffer and the text of a site from standard input, and prints the seal, or why there is none.
+// Reads a code byte, a key buffer and the text of a site from standard input, and prints the seal,
+// or why there is none.
 #![tactic(auto)]
 
-ghost use Rattle.std.specs.Prelude.{◌≡◌, ◌<◌, length, take, replicate, Ok, Err, MatchResult};
-ghost use Rattle.line_reader.specs.SiteInput.{longest_input, input_answer};
+ghost use Rattle.std.specs.Prelude.{◌≡◌, length, take, replicate, Some, Ok, Err};
+ghost use Rattle.std.specs.Prelude.{IfSome, IfOk, OnOk, MatchResult};
 ghost use Rattle.std.specs.Io.{ReadsAtMost};
+ghost use Rattle.std.specs.Io.KnownBytes.{Appends};
+ghost use Rattle.line_reader.specs.SiteInput.{input_answer};
+ghost use Rattle.sealsite.specs.Input.{ReadsInput};
+ghost use Rattle.sealsite.specs.AnswerText.{answer_text, answer_line};
 
 use line_reader::fault::Refusal;
 use line_reader::site_input::{LONGEST_INPUT, seal_input};
-use std::io::Read;
+use std::io::{Read, Write};
 use std::{fmt, io};
 
 // One byte more than the longest input, so that a longer one is seen.
 const ROOM: usize = LONGEST_INPUT + 1;
 
-// Fills a buffer from standard input as far as that goes, and answers how far. An input that is too long does not fit.
-fn read_input(rt: &HostRuntime, buffer: &mut [u8]) -> io::Result<usize>
-    requires { longest_input < length buffer.old }
-    ensures { ReadsAtMost result buffer.new }
+// Fills a buffer from a reader as far as that goes, and answers how far.
+#[tactic(auto, using(crate::proofs::Filled::filled_more))]
+fn read_input<R: Read>(reader: &mut R, buffer: &mut [u8]) -> io::Result<usize>
+    ensures bound { ReadsAtMost result buffer.new }
+    ensures reads { ReadsInput (R.remaining reader.old) (R.remaining reader.new) result buffer.new }
 {
-    let mut stdin = rt.stdin();
     let mut len = 0;
-    // By hand, since the library's `read_to_end` fills a vector that grows, and leaves key bytes behind in memory that it gave back.
+    // By hand, since the library's `read_to_end` fills a vector that grows, and leaves key bytes
+    // behind in memory that it gave back.
     while len < buffer.len() {
-        let more = stdin.read(&mut buffer[len..])?;
+        let more = reader.read(&mut buffer[len..])?;
         if more == 0 {
             break;
         }
@@ -37,7 +43,8 @@ fn seal_read(
     read: io::Result<usize>,
 ) -> io::Result<Result<(usize, u64), Refusal>>
     requires { ReadsAtMost «read» buffer.old }
-    ensures seals { MatchResult «read» (λ n. result ≡ Ok (input_answer (take n buffer.old))) (λ e. result ≡ Err e) }
+    ensures seals { MatchResult «read» (λ n. result ≡ Ok (input_answer (take n buffer.old)))
+        (λ e. result ≡ Err e) }
     ensures cleared { buffer.new ≡ replicate (length buffer.old) 0 }
 {
     let answer = read.map(|len| seal_input(&mut buffer[..len]));
@@ -50,6 +57,9 @@ fn seal_read(
 struct Answer(Result<(usize, u64), Refusal>);
 
 impl fmt::Display for Answer {
+    ghost output = { λ answer. Some (answer_text answer.0) };
+
+    #[tactic(auto, using(crate::proofs::SixteenDigits::sixteen_digits))]
     fn fmt<W: fmt::Write>(&self, f: &mut fmt::Formatter<W>) -> fmt::Result {
         match self.0 {
             Ok((length, seal)) => write!(f, "sealed {length} {seal:016X}"),
@@ -60,10 +70,27 @@ impl fmt::Display for Answer {
     }
 }
 
-fn main(rt: HostRuntime) -> io::Result<()> {
+// Seals all that a reader gives. Where a read fails, that is passed on, and there is no answer.
+fn answer_of<R: Read>(reader: &mut R) -> io::Result<Answer>
+    ensures { IfOk result (λ answer. IfSome (R.remaining reader.old)
+        (λ all. answer.0 ≡ input_answer all)) }
+{
     // Fixed memory, which is zeroed: a vector that grows leaves key bytes behind.
     let mut input = [0; ROOM];
-    let read = read_input(&rt, &mut input);
-    let answer = Answer(seal_read(&mut input, read)?);
-    println!(rt; "{answer}")
+    let read = read_input(reader, &mut input);
+    Ok(Answer(seal_read(&mut input, read)?))
+}
+
+// Writes the answer to all that a reader gives, as one line.
+fn seal_site<R: Read, W: Write>(reader: &mut R, writer: &mut W) -> io::Result<()>
+    ensures { OnOk result (IfSome (R.remaining reader.old)
+        (λ all. Appends (W.contents writer.old) (W.contents writer.new)
+        (answer_line (input_answer all)))) }
+{
+    let answer = answer_of(reader)?;
+    writeln!(writer, "{answer}")
+}
+
+fn main(rt: HostRuntime) -> io::Result<()> {
+    seal_site(&mut rt.stdin(), &mut rt.stdout())
 }

@@ -1,8 +1,15 @@
-use Rattle.std.proofs.Common.{◌≡◌, ◌-◌, ◌≤◌, length}
+-- What is filled is what the reader gave.
+use Rattle.std.proofs.Common.{◌≡◌, ◌-◌, ◌≤◌, length, take}
+use Rattle.std.specs.Io.KnownBytes.{Consumes}
 use Rattle.sealsite.proofs.read_input.Given as goal
 
 abbrev pub invariant-loop-len : goal.invariant-loop-len
-invariant-loop-len l = (l.len ≤ length l.buffer) × (length l.buffer ≡ length l.initial.buffer)
+invariant-loop-len g l = record {
+  within : l.len ≤ length l.buffer;
+  kept : length l.buffer ≡ length l.initial.buffer;
+  gave : Consumes (g.R.Read.remaining l.initial.reader) (g.R.Read.remaining l.reader)
+      (take l.len l.buffer);
+}
 
 abbrev pub decreases-loop-len : goal.decreases-loop-len
-decreases-loop-len l = length l.initial.buffer - l.len
+decreases-loop-len g l = length l.initial.buffer - l.len

@@ -1,0 +1,3 @@
+-- What the proofs of the program stand on.
+pub mod Filled
+pub mod SixteenDigits

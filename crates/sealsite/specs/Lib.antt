@@ -1,0 +1,3 @@
+-- What the program reads, and what it prints.
+pub mod Input
+pub mod AnswerText
