@@ -10,6 +10,9 @@ ghost use Rattle.hashes.specs.KeyFault.{family_opening, hashing, opened};
 ghost use Rattle.line_reader.specs.SiteInput.{input_answer};
 ghost use Rattle.register.specs.Check.{checked, faulted};
 
+#[cfg(test)]
+mod tests;
+
 use hashes::division::Division;
 use hashes::evaluation::Evaluation;
 use hashes::family::Family;

@@ -30,7 +30,7 @@ const SEALED: [Sealed; 3] = [
 ];
 
 // Inputs that are refused.
-const REFUSED: [Refused; 11] = [
+const REFUSED: [Refused; 12] = [
     Refused {
         what: "15 bytes of key buffer",
         bytes: b"\x01\0\0\0\0\0\0\0\x1B\0\0\0\0\0\0\0",
@@ -49,6 +49,11 @@ const REFUSED: [Refused; 11] = [
     Refused {
         what: "nothing",
         bytes: b"",
+        refusal: (4, (0, 0)),
+    },
+    Refused {
+        what: "the code 00",
+        bytes: b"\x00\0\0\0\0\0\0\0\x01\0\0\0\0\0\0\0\0",
         refusal: (4, (0, 0)),
     },
     Refused {

@@ -40,11 +40,16 @@ const MADE: [Sealed; 4] = [
 ];
 
 // Texts that are refused.
-const REFUSED: [Refused; 8] = [
+const REFUSED: [Refused; 9] = [
     Refused {
         what: "a leading zero",
         bytes: b"zone 7 \"A\"\n\nzone 07 \"A\"\n",
         refusal: (11, (3, 5)),
+    },
+    Refused {
+        what: "a carriage return",
+        bytes: b"zone 7 \"A\"\x0D\n",
+        refusal: (11, (1, 10)),
     },
     Refused {
         what: "an escape",

@@ -40,6 +40,7 @@ fn zones(rt: &impl Print, tally: &mut Tally, site: &mut Site) -> io::Result<()> 
         site.zone(4294967295, b"A"),
         Err(20),
     )?;
+    show(rt, tally, "zone 0, no name", site.zone(0, b""), Err(20))?;
     show(rt, tally, "no name", site.zone(1, b""), Err(21))?;
     show(
         rt,
@@ -77,15 +78,23 @@ fn points(rt: &impl Print, tally: &mut Tally, site: &mut Site) -> io::Result<()>
     show(rt, tally, "rule 250 1000", site.rule(250, 1000), Ok(74))
 }
 
-// As many rules as the message has room for, and one more.
-fn full(rt: &impl Print, tally: &mut Tally, mut site: Site) -> io::Result<()> {
-    let _ = site.zone(1, b"A");
+// A zone with this name, a point in it, and 8,568 rules of seven bytes.
+fn fill(site: &mut Site, name: &[u8]) {
+    let _ = site.zone(1, name);
     let _ = site.point(1, 1, 2);
     for _ in 0..8568u32 {
         let _ = site.rule(1, 1);
     }
+}
+
+// As many rules as the message has room for, and one more. What else is wrong is found before that.
+fn full(rt: &impl Print, tally: &mut Tally, mut site: Site) -> io::Result<()> {
+    fill(&mut site, b"A");
     show(rt, tally, "the 8569th rule", site.rule(1, 1), Ok(59997))?;
     show(rt, tally, "the 8570th rule", site.rule(1, 1), Err(32))?;
+    show(rt, tally, "zone 1 again", site.zone(1, b"A"), Err(30))?;
+    show(rt, tally, "a rule for zone 2", site.rule(2, 1), Err(31))?;
+    show(rt, tally, "zone 2", site.zone(2, b"A"), Err(32))?;
     tally.word(
         rt,
         "the seal of 59997 bytes",
@@ -94,18 +103,38 @@ fn full(rt: &impl Print, tally: &mut Tally, mut site: Site) -> io::Result<()> {
     )
 }
 
+// The longest message: 9 and 8 bytes, and 8,569 rules. A zone of 8 bytes in place of the last rule
+// would be one byte too many.
+fn longest(rt: &impl Print, tally: &mut Tally, mut site: Site) -> io::Result<()> {
+    fill(&mut site, b"HALL");
+    show(rt, tally, "60001 bytes", site.zone(2, b"ABC"), Err(32))?;
+    show(rt, tally, "60000 bytes", site.rule(1, 1), Ok(60000))?;
+    tally.word(
+        rt,
+        "the seal of 60000 bytes",
+        site.close(),
+        0x04AB9F256925BC02,
+    )
+}
+
+fn open() -> Option<Site> {
+    Site::open(&mut buffers::division()).ok()
+}
+
 pub fn run(rt: &impl Print, tally: &mut Tally) -> io::Result<()> {
-    let mut buffer = buffers::division();
-    match Site::open(&mut buffer) {
-        Ok(mut site) => {
+    match open() {
+        Some(mut site) => {
             zones(rt, tally, &mut site)?;
             points(rt, tally, &mut site)?;
         }
-        Err(_) => tally.line(rt, "a book at its limits", false)?,
+        None => tally.line(rt, "a book at its limits", false)?,
     }
-    let mut buffer = buffers::division();
-    match Site::open(&mut buffer) {
-        Ok(site) => full(rt, tally, site),
-        Err(_) => tally.line(rt, "a full message", false),
+    match open() {
+        Some(site) => full(rt, tally, site)?,
+        None => tally.line(rt, "a full message", false)?,
+    }
+    match open() {
+        Some(site) => longest(rt, tally, site),
+        None => tally.line(rt, "the longest message", false),
     }
 }
