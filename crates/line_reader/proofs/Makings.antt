@@ -1,16 +1,18 @@
 -- From the lines of a text to its image.
-use Rattle.std.proofs.Common.{◌≡◌, ℕ, ◌+◌, ◌-◌, ◌<◌, ◌≤◌, Bool, true, false, cond, leb, List, [], ◌++◌, length, take, replicate, Ok, Err, Result, sym, refl, ap, ◌∙◌, ap₂, arith, length-append}
+use Rattle.std.proofs.Common.{◌≡◌, ℕ, ◌+◌, ◌-◌, ◌<◌, ◌≤◌, Bool, true, false, cond, if◌then◌else◌, leb, List, [], ◌++◌, length, take, replicate, Ok, Err, Result, sym, refl, ap, ◌∙◌, ap₂, arith, length-append}
 use Rattle.std.proofs.lemmas.List.{take_at}
 use Rattle.std.specs.Int.{bytes_high_first}
-use Rattle.std.proofs.lemmas.Bool.{le-leb, lt-leb}
+use Rattle.std.proofs.lemmas.Bool.{le-leb, leb-false, leb-true, lt-leb}
 use Rattle.hashes.specs.Family.{Meaning}
 use Rattle.register.specs.Facts.{RegisterFacts}
 use Rattle.register.specs.Image.{seal_field}
 use Rattle.register.specs.Records.{Record, bytes_of, message}
 use Rattle.register.specs.View.{View, key_of, opening, pad_of, sealed}
 use Rattle.register.specs.Writing.{Holds, filled_up, put}
+use Rattle.line_reader.specs.declared.fault.MakeFault.{MakeFault}
+use Rattle.line_reader.specs.declared.fault.MakeFault.TheVariants.{Room}
 use Rattle.line_reader.specs.Making.{Making, all_taken, Sent, stopped, made, made_by, making, sealed_image, sent, unmade}
-use Rattle.line_reader.specs.Sending.{RefusedText, TextSent, by_buffer, by_line}
+use Rattle.line_reader.specs.Sending.{RefusedText, TextSent, by_buffer, by_line, wiped}
 use Rattle.line_reader.specs.Texts.{lines_of}
 
 -- of a buffer that opens
@@ -18,6 +20,10 @@ pub opened_made : (M : Meaning) (buffer text : List ℕ) (room : ℕ) (v : View 
     → made M buffer text room ≡ making M (key_of M buffer) (pad_of M buffer) room s
 opened_made M buffer text room v s o e =
     ap (made_by M buffer text room) (sym o) ∙ ap (making M (key_of M buffer) (pad_of M buffer) room) e
+
+-- 50, and zeros
+abbrev no_room : ℕ → Making
+no_room room = unmade room 50 0 0
 
 -- an image's length, and an output
 abbrev done : ℕ → List ℕ → Making
@@ -113,3 +119,17 @@ module _ (M : Meaning) (buffer text out : List ℕ) (room n seal : ℕ)
       put out a.0 (bytes_of (seal_field M.code (bytes_high_first 8 a.1)))) t.4)
       )
       ∙ ap (λ (k : ℕ). done (k + 12) later) (sym long)
+
+  -- whichever of the two it is
+  pub making_put : RegisterFacts M → (r : Result ℕ MakeFault) (later : List ℕ)
+      → length out ≡ room → length later ≡ room
+      → r ≡ (if leb (n + 12) (length out) then Ok (n + 12) else Err Room)
+      → later ≡ put out n (bytes_of (seal_field M.code (bytes_high_first 8 seal)))
+      → wiped r later ≡ made M buffer text room
+  making_put facts r later kept left e writes =
+      ap (λ (x : Result ℕ MakeFault). wiped x later) e ∙ go (leb (n + 12) (length out)) refl
+    where
+      go : (b : Bool) → leb (n + 12) (length out) ≡ b
+          → wiped (if b then Ok (n + 12) else Err Room) later ≡ made M buffer text room
+      go true q = sym (making_done facts later (omega (arith, leb-true _ _ q, kept)) writes)
+      go false q = ap no_room left ∙ sym (making_no_room (omega (arith, leb-false _ _ q, kept)))

@@ -10,6 +10,7 @@ ghost use Rattle.std.specs.Prelude.{◌≡◌, length, replicate};
 
 use crate::family_code::FamilyCode;
 use crate::fault::{InputFault, MakeFault, Refusal};
+use crate::make::image_len;
 use crate::text::send_text;
 use hashes::division::Division;
 use hashes::evaluation::Evaluation;
@@ -18,7 +19,6 @@ use hashes::gather::Gather;
 use hashes::key_fault::KeyFault;
 use hashes::toeplitz::Toeplitz;
 use register::facts::register_facts;
-use register::framing::SEAL_FIELD_LEN;
 use register::register::PAD_LEN;
 
 // The longest input.
@@ -32,7 +32,7 @@ fn seal_text<F: Family>(rest: &mut [u8]) -> Result<(usize, u64), MakeFault>
         .split_at_mut_checked(F::key_len() + PAD_LEN)
         .ok_or(KeyFault::Length)?;
     let (length, seal) = send_text::<F>(text, buffer, &mut [])?;
-    Ok((length + SEAL_FIELD_LEN, seal))
+    Ok((image_len(length), seal))
 }
 
 // Seals a text behind its key buffer by a family.

@@ -1,15 +1,14 @@
--- The text is refused, or its image has no room, or the seal field comes behind the message.
-use Rattle.std.proofs.Common.{◌≡◌, ℕ, ◌+◌, ◌<◌, ◌≤◌, List, length, Ok, Err, Result, sym, ap, ap₂, ◌∙◌, arith, replicate}
-use Rattle.std.specs.Int.{bytes_high_first}
-use Rattle.std.proofs.lemmas.Bool.{leb-false, leb-true}
+-- The text is refused, or the seal field comes behind the message where there is room.
+use Rattle.std.proofs.Common.{◌≡◌, ℕ, length, Err, Result, sym, ap, ◌∙◌, arith, replicate}
 use Rattle.std.proofs.lemmas.Result.{err_from_is_err_and}
+use Rattle.std.specs.Int.{bytes_high_first}
 use Rattle.register.specs.Image.{seal_field}
 use Rattle.register.specs.Records.{bytes_of}
 use Rattle.register.specs.Writing.{put}
 use Rattle.line_reader.specs.declared.fault.MakeFault.{MakeFault}
 use Rattle.line_reader.specs.Making.{Making}
 use Rattle.line_reader.specs.Sending.{wiped}
-use Rattle.line_reader.proofs.Makings.{making_done, making_no_room, making_refused}
+use Rattle.line_reader.proofs.Makings.{making_put, making_refused}
 use Rattle.line_reader.proofs.make.build.Goals as goal
 
 -- a refusal leaves zeros, by the room
@@ -27,37 +26,13 @@ returns-in_err-length-clause-makes g c =
     ∙ sym (making_refused M c.args.buffer.now c.args.text.now (length c.args.out.now) _ _
     (c.in_err-length.ensures.sends.sends c.requires))
 
-pub returns-then-not-put_bytes-clause-makes : goal.returns-then-not-put_bytes-clause-makes
-returns-then-not-put_bytes-clause-makes g c =
-    let M = g.F.Family.meaning in
-    let out = c.send_text.new.out in
-    let kept : length out ≡ length c.args.out.now = omega arith in
-    let left : length c.put_bytes.new.out ≡ length c.args.out.now = omega arith in
-    let field = ap length c.seal_bytes.ensures in
-    let full =
-    leb-false (c.in_ok-length.length + length c.seal_bytes.result) (length out)
-    (sym c.put_bytes.ensures.fits ∙ c.if-not-put_bytes.true) in
-    ap (refused_in 50 (0, 0)) left
-    ∙ sym (
-    making_no_room M c.args.buffer.now c.args.text.now out
-    (length c.args.out.now) c.in_ok-length.length c.in_ok-length.seal
-    (c.in_ok-length.ensures.sends.sends c.requires) (omega (arith, full, field, kept))
-    )
-
 pub returns-clause-makes : goal.returns-clause-makes
 returns-clause-makes g c =
-    let M = g.F.Family.meaning in
-    let out = c.send_text.new.out in
-    let kept : length out ≡ length c.args.out.now = omega arith in
-    let field = ap length c.seal_bytes.ensures in
-    let room =
-    leb-true (c.in_ok-length.length + length c.seal_bytes.result) (length out)
-    (sym c.put_bytes.ensures.fits ∙ c.if-not-put_bytes.false) in
-    sym (
-    making_done M c.args.buffer.now c.args.text.now out
+    making_put g.F.Family.meaning c.args.buffer.now c.args.text.now c.send_text.new.out
     (length c.args.out.now) c.in_ok-length.length c.in_ok-length.seal
-    (c.in_ok-length.ensures.sends.sends c.requires) c.register_facts.ensures.facts c.put_bytes.new.out (omega (arith, room, field, kept))
-    (c.put_bytes.ensures.writes ∙ ap (put out c.in_ok-length.length) (c.seal_bytes.ensures
-    ∙ ap (λ (k : ℕ).
-    bytes_of (seal_field k (bytes_high_first 8 c.in_ok-length.seal))) c.code.ensures))
-    )
+    (c.in_ok-length.ensures.sends.sends c.requires) c.register_facts.ensures.facts
+    c.put_seal.result c.put_seal.new.out (omega arith) (omega arith)
+    c.put_seal.ensures.answers
+    (c.put_seal.ensures.writes
+    ∙ ap (λ (k : ℕ). put c.send_text.new.out c.in_ok-length.length
+    (bytes_of (seal_field k (bytes_high_first 8 c.in_ok-length.seal)))) c.code.ensures)

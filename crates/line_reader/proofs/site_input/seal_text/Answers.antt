@@ -20,4 +20,5 @@ returns g c =
     let cut : Cut M c.args.rest.now c.in_ok-rest.buffer.now c.in_ok-rest.text.now =
     record { long = search rules; front = search rules; back = search rules } in
     let t = c.in_ok-length.ensures.sends.sends refl in
-    ap (λ (a : ℕ × ℕ). Ok (a.0 + 12, a.1)) t.4 ∙ text_sealed cut t.0 t.1 t.2 t.3
+    ap (λ (k : ℕ). Ok (k, c.in_ok-length.seal)) c.image_len.ensures
+    ∙ ap (λ (a : ℕ × ℕ). Ok (a.0 + 12, a.1)) t.4 ∙ text_sealed cut t.0 t.1 t.2 t.3
