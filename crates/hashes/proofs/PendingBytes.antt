@@ -75,15 +75,18 @@ pub finished : (n x y : ℕ) (part : List ℕ) → Bytes part → n + length par
 finished n x y part h l lt e =
     whole_word y lt ∙ ap word (ap (λ (k : ℕ). bytes_high_first k y) (sym l) ∙ extended n x y part h (omega arith) e)
 
--- one byte more of a part
-pub byte_more : (x y b i : ℕ) (part : List ℕ) → i < length part → get_or part i 0 < 256 → b ≡ get_or part i 0 → y ≡ number_from_digits_after 256 x (take i part) % 2 ^ 64
-    → bit_or (y * 256 % 2 ^ 64) b ≡ number_from_digits_after 256 x (take (i + 1) part) % 2 ^ 64
-byte_more x y b i part h lt e p =
-    ap (λ (z : ℕ). bit_or z b) top ∙ or_shifted (y % 2 ^ 56) 8 b (omega (arith, lt, e)) ∙ (omega (arith, next, e, p))
+-- one byte put in from below
+pub byte_below : (x b : ℕ) → b < 256 → bit_or (x * 256 % 2 ^ 64) b ≡ (x * 256 + b) % 2 ^ 64
+byte_below x b lt = ap (λ (z : ℕ). bit_or z b) top ∙ or_shifted (x % 2 ^ 56) 8 b lt ∙ omega arith
   where
-    top : y * 256 % 2 ^ 64 ≡ y % 2 ^ 56 * 2 ^ 8
+    top : x * 256 % 2 ^ 64 ≡ x % 2 ^ 56 * 2 ^ 8
     top = omega arith
 
+-- one byte more of a part
+pub byte_more : (x y i : ℕ) (part : List ℕ) → i < length part → y ≡ number_from_digits_after 256 x (take i part) % 2 ^ 64
+    → (y * 256 + get_or part i 0) % 2 ^ 64 ≡ number_from_digits_after 256 x (take (i + 1) part) % 2 ^ 64
+byte_more x y i part h p = omega (arith, next, p)
+  where
     one : i + 1 ≡ suc i
     one = omega arith
 

@@ -1,7 +1,7 @@
 -- Counting with lists without repeats: the pigeonhole principle, over lists and below a bound.
 use Rattle.std.specs.Prelude.{◌≡◌, ℕ, zero, suc, ◌<◌, ◌≤◌, ◌⊎◌, List, [], ◌∷◌, length, refl}
-use Rattle.std.proofs.Common.{sym, ap, subst, inl, inr, zero-le, suc-le-suc}
-use native.Mathlib.Nat.{le_trans, le_of_eq, le-suc_iff}
+use Rattle.std.proofs.Common.{sym, ap, subst, inl, inr, zero-le, suc-le-suc, arith}
+use native.Mathlib.Nat.{le_trans, le_of_eq, le-suc_iff, lt_irrefl, le_step}
 use Rattle.std.specs.List.{AllByRecursion}
 use Rattle.hashes.specs.Lists.{◌∈◌, Distinct}
 
@@ -60,6 +60,17 @@ pub ∈_below : (n x : ℕ) → x < n → x ∈ below n
 unfolding below
 ∈_below zero x h = absurd (native.Mathlib.Nat.not-suc-le-zero h)
 ∈_below (suc n) x h = elim (le-suc_iff.0 h) [ inl k ↦ inr (∈_below n x k) | inr e ↦ inl (native.Mathlib.Nat.suc_inj e) ]
+
+pub below_∈ : (n x : ℕ) → x ∈ below n → x < n
+unfolding below
+below_∈ zero x m = absurd m
+below_∈ (suc n) x (inl e) = omega arith
+below_∈ (suc n) x (inr m) = le_step (below_∈ n x m)
+
+pub distinct_below : (n : ℕ) → Distinct (below n)
+unfolding below
+distinct_below zero = tt
+distinct_below (suc n) = (λ m. lt_irrefl n (below_∈ n n m), distinct_below n)
 
 -- A list without repeats of numbers below n has at most n of them.
 pub distinct_bounded : (n : ℕ) (xs : List ℕ) → Distinct xs → AllByRecursion (λ x. x < n) xs → length xs ≤ n

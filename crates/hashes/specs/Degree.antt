@@ -20,6 +20,12 @@ lead_high a n e = rw (pow-suc 2 n, mul_comm (2 ^ n) 2) ((div-lt_iff_lt-mul (pow_
 lead_pos : (a n : ℕ) → a / 2 ^ n ≡ 1 → 0 < a
 lead_pos a n e = lt_of_lt_of_le (pow_pos n) (lead_low a n e)
 
+pub lead_intro : (a n : ℕ) → 2 ^ n ≤ a → a < 2 ^ suc n → a / 2 ^ n ≡ 1
+lead_intro a n l h =
+    le_antisymm
+    (let k : a / 2 ^ n < 2 = (div-lt_iff_lt-mul (pow_pos n)).1 (rw (mul_comm 2 (2 ^ n), ← pow-suc 2 n) h) in omega arith)
+    ((le-div_iff_mul-le (pow_pos n)).1 (rw (one-mul (2 ^ n)) l))
+
 below : (a m n : ℕ) → a / 2 ^ m ≡ 1 → a / 2 ^ n ≡ 1 → n ≤ m
 below a m n e f = go (dec_lt m n)
   where

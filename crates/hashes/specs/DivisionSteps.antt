@@ -1,15 +1,18 @@
 -- The division hash step by step, one byte after the other. For words of any width.
 use Rattle.std.specs.Prelude.{◌≡◌, ℕ, ◌+◌, ◌-◌, ◌*◌, ◌/◌, ◌%◌, ◌^◌, ◌<◌, ◌≤◌, List, [], ◌∷◌, fold, bit_xor, refl}
 use Rattle.std.proofs.Math.Path.{sym, ap}
-use Rattle.std.proofs.Common.{◌∙◌}
+use Rattle.std.proofs.Common.{◌∙◌, mul_assoc, zero-mul, pow_pos}
 use Rattle.hashes.specs.Division.{division, division_step, message_polynomial}
-use Rattle.hashes.specs.Polynomial.{remainder, times_mod}
+use Rattle.hashes.specs.Polynomial.{remainder, times_mod, degree}
 use Rattle.hashes.specs.Word.{Bytes}
 use Rattle.hashes.specs.Messages.{message_after}
-use Rattle.hashes.specs.Remainder.{remainder_small}
-use Rattle.hashes.specs.Times.{times_one_l}
-use Rattle.hashes.specs.Words.{division_word, remainder_append, table_step, word_degree, word_pos}
+use Rattle.hashes.specs.Remainder.{remainder_small, remainder_times_r, remainder_xor}
+use Rattle.hashes.specs.Times.{times_one_l, times_comm}
+use Rattle.hashes.specs.Words.{division_word, remainder_append, table_step, word_degree, word_pos, times_shl}
 use Rattle.std.specs.Int.Digits.{number_from_digits_after}
+use Rattle.std.proofs.Math.Nat.{mul_comm}
+use Rattle.std.proofs.Math.Numerals.{lt-add-one}
+use Rattle.hashes.specs.Xor.{xor_last, xor_shl}
 
 -- x^n modulo x^n + w
 pub division_of_one : (n w : ℕ) → w < 2 ^ n → division n w 1 ≡ w
@@ -17,6 +20,34 @@ division_of_one n w h =
     division_word n w 1 h
     ∙ (unfold times_mod in
     (ap (λ (x : ℕ). remainder x (2 ^ n + w)) (times_one_l w) ∙ remainder_small (2 ^ n + w) (word_pos n w) w (rw (word_degree n w h) h)))
+
+-- ---- entries of the table one by one
+
+module _ (n w : ℕ) where
+  pub division_zero : division n w 0 ≡ 0
+  unfolding division
+  division_zero =
+      ap (λ (x : ℕ). remainder x (2 ^ n + w)) (zero-mul (2 ^ n)) ∙ remainder_small (2 ^ n + w) (word_pos n w) 0 (pow_pos (degree (2 ^ n + w)))
+
+  -- entry 2t is entry t times x
+  pub division_double : (t : ℕ) → division n w (2 * t) ≡ times_mod (2 ^ n + w) 2 (division n w t)
+  unfolding division times_mod
+  division_double t =
+      ap (λ (x : ℕ). remainder x (2 ^ n + w)) (mul_assoc 2 t (2 ^ n) ∙ mul_comm 2 (t * 2 ^ n) ∙ sym (times_comm 2 (t * 2 ^ n) ∙ times_shl (t * 2 ^ n) 1))
+      ∙ sym (remainder_times_r (2 ^ n + w) (word_pos n w) 2 (t * 2 ^ n))
+
+  -- and entry 2t + 1 has x^n added
+  pub division_odd : (t : ℕ) → w < 2 ^ n → division n w (2 * t + 1) ≡ bit_xor (division n w (2 * t)) w
+  division_odd t h = split ∙ ap (bit_xor (division n w (2 * t))) (division_of_one n w h)
+    where
+      split : division n w (2 * t + 1) ≡ bit_xor (division n w (2 * t)) (division n w 1)
+      split = unfold division in
+          (ap (λ (x : ℕ). remainder x (2 ^ n + w))
+          (ap (λ (x : ℕ). x * 2 ^ n) (ap (λ (x : ℕ). x + 1) (mul_comm 2 t) ∙ sym (xor_last t 1 (lt-add-one 1)) ∙ ap (λ (x : ℕ). bit_xor x 1) (mul_comm t 2))
+          ∙ sym (xor_shl (2 * t) 1 n))
+          ∙ remainder_xor (2 ^ n + w) (word_pos n w) (2 * t * 2 ^ n) (1 * 2 ^ n))
+
+-- ---- one byte after the other
 
 -- one lookup: the entry for the remainder's top byte and the new one
 pub division_lookup : (n p r b : ℕ) → 8 ≤ n → p < 2 ^ n → division_step n p r b ≡ bit_xor (r * 2 ^ 8 % 2 ^ n) (division n p (bit_xor (r / 2 ^ (n - 8)) b))

@@ -8,7 +8,7 @@ use Rattle.hashes.specs.Lists.{◌∈◌, Distinct}
 use Rattle.hashes.specs.Polynomial.{times, degree, remainder, Divides, gcd_within, gcd}
 use Rattle.hashes.specs.Irreducible.{Irreducible}
 use Rattle.hashes.specs.Xor.{xor_cancel}
-use Rattle.hashes.specs.Times.{times_zero_l, times_zero_r, times_one_l, times_xor_l, times_xor_r, times_comm, times_assoc}
+use Rattle.hashes.specs.Times.{times_zero_l, times_zero_r, times_one_l, times_xor_l, times_xor_r, times_comm, times_assoc, times_one_r}
 use Rattle.hashes.specs.Degree.{degree_lead, degree_times, degree_zero}
 use Rattle.hashes.specs.Remainder.{divided, remainder_below, remainder_multiple}
 
@@ -124,6 +124,28 @@ gcd_common a b = gcd_within_common b a b (le_refl b)
 
 pub gcd_greatest : {d a b : ℕ} → Divides d a → Divides d b → Divides d (gcd a b)
 gcd_greatest {a = a} {b = b} h k = common_greatest (gcd_common a b) h k
+
+-- two that divide each other are equal: 1 is the only unit
+pub divides_antisymm : {a b : ℕ} → Divides a b → Divides b a → a ≡ b
+divides_antisymm {a} {b} h k = go (eq-zero-or-pos b)
+  where
+    go : (b ≡ 0) ⊎ (0 < b) → a ≡ b
+    go (inl z) = sym k.product ∙ ap (times k.quotient) z ∙ times_zero_r k.quotient ∙ sym z
+    go (inr pos) =
+        same_degree pos h (omega (arith, degree_quotient pos h, degree_quotient (divisor_pos pos h) k))
+
+pub common_unique : {g h a b : ℕ} → Common g a b → Common h a b → g ≡ h
+common_unique c e = divides_antisymm (common_greatest e c.left c.right) (common_greatest c e.left e.right)
+
+-- one step of Euclid's
+pub gcd_step : (a b : ℕ) → 0 < b → gcd a b ≡ gcd b (remainder a b)
+gcd_step a b pos = common_unique (gcd_common a b) (common_step a pos (gcd_common b (remainder a b)))
+
+pub gcd_zero : (a : ℕ) → gcd a 0 ≡ a
+gcd_zero a = common_unique (gcd_common a 0) (common_zero a)
+
+pub gcd_one : (a : ℕ) → gcd a 1 ≡ 1
+gcd_one a = divides_antisymm (gcd_common a 1).right (record { quotient = gcd a 1; product = times_one_r (gcd a 1) })
 
 -- ---- irreducible polynomials
 

@@ -126,6 +126,11 @@ module _ (n p : ℕ) where
 
   -- ---- the states
 
+  pub state_is : (s j : ℕ) → state n p s j ≡ iterate (lfsr n p) j s
+  unfolding state iterate
+  state_is s zero = refl
+  state_is s (suc j) = ap (lfsr n p) (state_is s j)
+
   pub state_add : (s j i : ℕ) → state n p s (j + i) ≡ state n p (state n p s j) i
   unfolding state
   state_add s j zero = ap (state n p s) (add-zero j)

@@ -1,7 +1,7 @@
 -- Division with remainder by a polynomial p with the leading term x^n.
 use Rattle.std.specs.Prelude.{◌≡◌, ℕ, suc, ◌+◌, ◌*◌, ◌/◌, ◌%◌, ◌^◌, ◌<◌, ◌⊎◌, bit_xor}
 use Rattle.std.proofs.Math.Path.{sym, ap, ap₂}
-use Rattle.std.proofs.Common.{◌∙◌, subst, inl, inr, one-mul, mod-lt, zero-lt-suc, div-lt_iff_lt-mul, pow-suc, le_of_eq, le_trans, lt_of_lt_of_le, not-le_of_lt, eq-zero-or-pos, le-add_left, mul_comm, pow_pos, pow_mono}
+use Rattle.std.proofs.Common.{◌∙◌, subst, inl, inr, one-mul, mod-lt, zero-lt-suc, div-lt_iff_lt-mul, pow-suc, le_of_eq, le_trans, lt_of_lt_of_le, not-le_of_lt, eq-zero-or-pos, le-add_left, mul_comm, pow_pos, pow_mono, div-add-mod', mul-zero}
 use Rattle.std.proofs.Math.Nat.{zero-mul, zero-div}
 use Rattle.std.specs.Int.Bits.{xor_zero_r, xor_assoc, xor_self}
 use Rattle.std.proofs.lemmas.Nat.{xor_lt, xor_comm}
@@ -10,7 +10,7 @@ use Rattle.hashes.specs.Polynomial.{times, degree, reduce, remainder_at, remaind
 use Rattle.hashes.specs.Horner.{horner_zero, horner_step}
 use Rattle.hashes.specs.Xor.{digit_cases, xor_swap, xor_dbl, xor_last, xor_cancel, xor_zero, by_last}
 use Rattle.hashes.specs.Times.{times_zero_l, times_dbl_l, times_xor_l, times_comm, times_assoc, times_digit}
-use Rattle.hashes.specs.Degree.{lead_low, xor_cancels, lead_times, degree_lead}
+use Rattle.hashes.specs.Degree.{lead_low, xor_cancels, lead_times, degree_lead, degree_zero}
 
 -- a polynomial with p for a factor is zero, or its degree is p's at least
 multiple_low : (n p q : ℕ) → p / 2 ^ n ≡ 1 → times q p < 2 ^ n → q ≡ 0
@@ -184,3 +184,17 @@ module _ (p : ℕ) (pos : 0 < p) where
 
   pub remainder_times : (a b : ℕ) → remainder (times (remainder a p) (remainder b p)) p ≡ remainder (times a b) p
   remainder_times a b = remainder_times_l a (remainder b p) ∙ remainder_times_r a b
+
+-- by zero, nothing is taken away
+pub remainder_zero : (a : ℕ) → remainder a 0 ≡ a
+unfolding remainder reduce
+remainder_zero a = rw degree_zero (none a)
+  where
+    none : (a : ℕ) → remainder_at 0 0 a ≡ a
+    none =
+        bin_ind (λ (a : ℕ). remainder_at 0 0 a ≡ a) (remainder_at_zero 0 0)
+        (λ a ih. remainder_at_step 0 0 a
+        ∙ ap (bit_xor (remainder_at 0 0 (a / 2) * 2 + a % 2)) (mul-zero ((remainder_at 0 0 (a / 2) * 2 + a % 2) / 2 ^ 0))
+        ∙ xor_zero_r (remainder_at 0 0 (a / 2) * 2 + a % 2)
+        ∙ ap (λ (x : ℕ). x * 2 + a % 2) ih
+        ∙ div-add-mod' a 2)

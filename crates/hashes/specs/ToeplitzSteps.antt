@@ -1,11 +1,11 @@
 -- The Toeplitz hash one byte at a time, and a byte one bit at a time.
-use Rattle.std.specs.Prelude.{◌≡◌, ℕ, zero, suc, ◌+◌, ◌-◌, ◌*◌, ◌/◌, ◌%◌, ◌^◌, ◌<◌, ◌≤◌, List, [], ◌∷◌, ◌++◌, length, fold, bit_and, bit_or, bit_xor, count_ones, refl}
-use Rattle.std.proofs.Common.{sym, ap, ap₂, ◌∙◌, add-zero, add-suc, suc-add, zero-add, mod-eq_of_lt, one-mul, not-suc-le-zero, sub-one, arith, length-append, shl_lt}
+use Rattle.std.specs.Prelude.{◌≡◌, ℕ, zero, suc, ◌+◌, ◌-◌, ◌*◌, ◌/◌, ◌%◌, ◌^◌, ◌<◌, ◌≤◌, List, [], ◌∷◌, ◌++◌, length, fold, bit_and, bit_or, bit_xor, count_ones, refl, ◌≢◌}
+use Rattle.std.proofs.Common.{sym, ap, ap₂, ◌∙◌, add-zero, add-suc, suc-add, zero-add, mod-eq_of_lt, one-mul, not-suc-le-zero, sub-one, arith, length-append, shl_lt, inl, inr, zero-mul}
 use Rattle.std.proofs.lemmas.Nat.{xor_comm, and_mask}
 use Rattle.std.specs.Int.Bits.{xor_assoc, xor_zero_r, xor_shifted, or_shifted_r, shifted_half}
 use Rattle.hashes.specs.Toeplitz.{ToeplitzState, bit, parity, lfsr, state, bits, byte_bits, message_bits, chosen, toeplitz, toeplitz_state}
-use Rattle.hashes.specs.Xor.{half_xor}
-use Rattle.hashes.specs.Bits.{half_lt, parity_lt}
+use Rattle.hashes.specs.Xor.{half_xor, digit_cases}
+use Rattle.hashes.specs.Bits.{half_lt, parity_lt, digit_lt}
 use Rattle.hashes.specs.Lfsr.{state_add}
 use Rattle.hashes.specs.ToeplitzMessage.{length_bits}
 
@@ -73,6 +73,18 @@ chosen_one : (n p w : ℕ) (d : ℕ) (ds : List ℕ) → chosen n p w 0 (d ∷ d
 unfolding chosen state
 chosen_one n p w d ds = ap (bit_xor (d * w)) (chosen_from n p w 1 ds)
 
+-- the test of one bit
+pub bit_set : (a w b k : ℕ) → bit_and (b / 2 ^ k) 1 ≡ 1 → bit_xor a w ≡ bit_xor a (bit b k * w)
+unfolding bit
+bit_set a w b k h = ap (bit_xor a) (sym (ap (λ (x : ℕ). x * w) (sym (and_mask (b / 2 ^ k) 1) ∙ h) ∙ one-mul w))
+
+pub bit_clear : (a w b k : ℕ) → (bit_and (b / 2 ^ k) 1 ≢ 1) → a ≡ bit_xor a (bit b k * w)
+unfolding bit
+bit_clear a w b k h = sym (ap (bit_xor a) (ap (λ (x : ℕ). x * w) clear ∙ zero-mul w) ∙ xor_zero_r a)
+  where
+    clear : b / 2 ^ k % 2 ≡ 0
+    clear = elim (digit_cases (digit_lt (b / 2 ^ k))) [ inl e ↦ e | inr e ↦ absurd (h (and_mask (b / 2 ^ k) 1 ∙ e)) ]
+
 run_again : (n p w w' a a' b i X Y : ℕ) → 0 < i → w' ≡ lfsr n p w → a' ≡ bit_xor a (bit b (i - 1) * w)
     → (state n p w i ≡ X) × (bit_xor a (chosen n p w 0 (bits i b)) ≡ Y)
     → (state n p w' (i - 1) ≡ X) × (bit_xor a' (chosen n p w' 0 (bits (i - 1) b)) ≡ Y)
@@ -94,6 +106,18 @@ run_done : (n p w a b i X Y : ℕ) → i ≤ 0 → (state n p w i ≡ X) × (bit
 unfolding state chosen bits
 run_done n p w a b zero X Y l h = (h.0, sym (xor_zero_r a) ∙ h.1)
 run_done n p w a b (suc i) X Y l h = absurd (not-suc-le-zero l)
+
+-- ---- no bit
+
+pub state_none : (n p s : ℕ) → s ≡ state n p s 0
+unfolding state
+state_none n p s = refl
+
+pub chosen_none : (n p s t : ℕ) → t ≡ bit_xor t (chosen n p s 0 (byte_bits []))
+unfolding chosen byte_bits
+chosen_none n p s t = sym (xor_zero_r t)
+
+-- ---- a byte
 
 -- the state after the i lowest bits of a byte, the highest of them first
 abbrev pub after_bits : ℕ → ToeplitzState → ℕ → ℕ → ToeplitzState

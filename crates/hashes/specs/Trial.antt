@@ -55,3 +55,12 @@ trial_decides p = (passes, irreducible)
         none j h z =
             irr.no_divisor (j + 2) (pos_degree (omega arith)) (degree_lt (degree p) (j + 2) irr.no_constant (omega arith))
             (divides_of_remainder (j + 2) p (omega arith) z)
+
+-- a test that decides irreducibility answers what the trial does
+pub same_as_trial : (b : Bool) (p : ℕ) → Decides b (Irreducible p) → b ≡ irreducible_by_trial p
+same_as_trial b p d = go b (irreducible_by_trial p) d (trial_decides p)
+  where
+    go : (a c : Bool) → Decides a (Irreducible p) → Decides c (Irreducible p) → a ≡ c
+    go true c f g = sym (g.1 (f.0 refl))
+    go false true f g = f.1 (g.0 refl)
+    go false false f g = refl

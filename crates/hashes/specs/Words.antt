@@ -1,7 +1,7 @@
 -- Remainders by x^n + w, where w is a word of n bits: what code does with words. For any width.
 use Rattle.std.specs.Prelude.{◌≡◌, ℕ, zero, suc, ◌+◌, ◌-◌, ◌*◌, ◌/◌, ◌%◌, ◌^◌, ◌<◌, ◌≤◌, ◌⊎◌, bit_xor}
 use Rattle.std.proofs.Math.Path.{sym, ap, ap₂}
-use Rattle.std.proofs.Common.{◌∙◌, inl, inr, zero-mul, one-mul, mul-one, mul_assoc, mul_comm, add-zero, zero-add, mul_right_comm, mul-lt-mul_of_pos_right, mod-lt, pow-suc, zero-lt-suc, div-lt_iff_lt-mul, arith, pow_pos, pow-add, shl_lt}
+use Rattle.std.proofs.Common.{◌∙◌, inl, inr, zero-mul, one-mul, mul-one, mul_assoc, mul_comm, add-zero, zero-add, mul_right_comm, mul-lt-mul_of_pos_right, mod-lt, pow-suc, zero-lt-suc, div-lt_iff_lt-mul, arith, pow_pos, pow-add, shl_lt, mul-le-mul_right, le_trans, le_of_eq, le_of_suc-le-suc, lt_of_le_of_lt}
 use Rattle.std.proofs.Math.Nat.{mul-mod_left, mul-div-mul_right}
 use Rattle.std.specs.Int.Bits.{xor_comm, xor_assoc, xor_shifted}
 use Rattle.std.proofs.lemmas.Nat.{xor_block, shl-shr, mod-pow-add}
@@ -10,9 +10,9 @@ use Rattle.std.proofs.Math.Pow.{split}
 use Rattle.hashes.specs.Polynomial.{times, degree, reduce, remainder_at, remainder, times_mod}
 use Rattle.hashes.specs.Division.{division}
 use Rattle.hashes.specs.Xor.{xor_shl, xor_cancel_r, digit_cases}
-use Rattle.hashes.specs.Times.{times_one_r, times_dbl_r, times_comm, times_xor_r}
+use Rattle.hashes.specs.Times.{times_one_r, times_dbl_r, times_comm, times_xor_r, times_step}
 use Rattle.hashes.specs.Degree.{degree_is}
-use Rattle.hashes.specs.Remainder.{remainder_small, remainder_add, remainder_xor, remainder_times_l, remainder_at_step}
+use Rattle.hashes.specs.Remainder.{remainder_small, remainder_add, remainder_xor, remainder_times_l, remainder_at_step, remainder_times_r}
 
 -- x^n times a
 pub times_shl : (a n : ℕ) → times a (2 ^ n) ≡ a * 2 ^ n
@@ -147,3 +147,23 @@ table_step n k w r b l h =
     low =
         ap (λ (m : ℕ). r * 2 ^ k % 2 ^ m) (sym whole) ∙ mod-pow-add (r * 2 ^ k) j k
         ∙ ap₂ (λ (x y : ℕ). x % 2 ^ j * 2 ^ k + y) (shl-shr r k) (mul-mod_left r (2 ^ k)) ∙ add-zero (r % 2 ^ j * 2 ^ k)
+
+-- ---- one turn of a product, from the lowest digit on
+
+pub times_turn : (p s x y : ℕ) → 0 < p → x < 2 ^ degree p
+    → bit_xor (bit_xor s (y % 2 * x)) (times_mod p (y / 2) (times_mod p 2 x)) ≡ bit_xor s (times_mod p y x)
+times_turn p s x y pos h =
+    xor_assoc s (y % 2 * x) (times_mod p (y / 2) (times_mod p 2 x))
+    ∙ ap (bit_xor s) (sym digit)
+  where
+    small : y % 2 * x < 2 ^ degree p
+    small = lt_of_le_of_lt (le_trans (mul-le-mul_right x (le_of_suc-le-suc (mod-lt y (zero-lt-suc 1)))) (le_of_eq (one-mul x))) h
+
+    digit : times_mod p y x ≡ bit_xor (y % 2 * x) (times_mod p (y / 2) (times_mod p 2 x))
+    digit = unfold times_mod in
+        (ap (λ (z : ℕ). remainder z p) (times_step y x)
+        ∙ remainder_xor p pos (times (y / 2) x * 2) (y % 2 * x)
+        ∙ xor_comm (remainder (times (y / 2) x * 2) p) (remainder (y % 2 * x) p)
+        ∙ ap₂ bit_xor (remainder_small p pos (y % 2 * x) small)
+        (ap (λ (z : ℕ). remainder z p) (sym (times_dbl_r (y / 2) x) ∙ ap (times (y / 2)) (sym (times_shl x 1) ∙ times_comm x 2))
+        ∙ sym (remainder_times_r p pos (y / 2) (times 2 x))))

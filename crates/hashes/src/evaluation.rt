@@ -1,5 +1,5 @@
 // The evaluation hash: the message's words as the coefficients of a polynomial, evaluated at the key's point.
-ghost use Rattle.std.specs.Prelude.{◌≡◌, ℕ, ◌*◌, ◌%◌, ◌^◌, ◌<◌, ◌+◌, List, [], ◌++◌, length, slice_index, slice_index_or};
+ghost use Rattle.std.specs.Prelude.{◌≡◌, Decides, ℕ, ◌*◌, ◌%◌, ◌^◌, ◌<◌, ◌+◌, List, [], ◌∷◌, ◌++◌, length, slice_index, slice_index_or};
 ghost use Rattle.std.specs.Int.{bytes_high_first};
 ghost use Rattle.std.specs.Int.Digits.{number_from_digits_after};
 ghost use Rattle.hashes.specs.Evaluation.{EvaluationFacts, EvaluationState, evaluation_family, evaluation_hash, evaluation_state, modulus, padded, with_word};
@@ -110,6 +110,13 @@ impl Pending {
         Pending { word: 0, len: 0 }
     }
 
+    #[tactic(auto, using(crate::proofs::PendingBytes::length_bytes))]
+    fn is_empty(&self) -> bool
+        ensures { Decides result (self.now ≡ []) }
+    {
+        self.len == 0
+    }
+
     // How many bytes finish the word.
     #[tactic(auto, using(crate::proofs::PendingBytes::length_bytes))]
     fn room(&self) -> usize
@@ -124,6 +131,14 @@ impl Pending {
     {
         self.word = with_bytes(self.word, part);
         self.len += part.len();
+    }
+
+    fn push(&mut self, byte: u8)
+        requires { length self.old < 7 }
+        ensures { self.new ≡ self.old ++ (byte ∷ []) }
+    {
+        self.word = with_byte(self.word, byte);
+        self.len += 1;
     }
 
     // The word that a part finishes.
@@ -141,13 +156,22 @@ impl Pending {
     }
 }
 
-// A word with bytes put in from below, which push the top ones out.
+// A word with a byte put in from below, which pushes the top one out.
+#[tactic(auto, using(crate::proofs::PendingBytes::byte_below))]
+fn with_byte(word: u64, byte: u8) -> u64
+    ensures { result ≡ (word * 256 + byte) % 2 ^ 64 }
+{
+    (word << 8) | u64::from(byte)
+}
+
+// The same with bytes, one after the other.
+#[tactic(auto, using(crate::proofs::PendingBytes::byte_more))]
 fn with_bytes(word: u64, bytes: &[u8]) -> u64
     ensures { result ≡ number_from_digits_after 256 word bytes.now % 2 ^ 64 }
 {
     let mut word = word;
     for byte in bytes {
-        word = (word << 8) | u64::from(*byte);
+        word = with_byte(word, *byte);
     }
     word
 }
@@ -187,9 +211,23 @@ impl Evaluation {
         }
     }
 
-    // Takes in a part: what finishes the word under way, and what comes after it.
+    // Takes in a part. A byte alone is put to the bytes pending without a loop, and where none are
+    // pending whole words are read as they stand: put together byte by byte, a part of one byte or of
+    // eight took half as long again.
     #[tactic(auto, using(crate::proofs::EvaluationSteps::bytes_held))]
     fn take_part(&mut self, part: &[u8])
+        ensures { self.new ≡ absorbed evaluation_family self.old part.now }
+    {
+        match part {
+            [byte] if self.pending.room() > 1 => self.pending.push(*byte),
+            _ if self.pending.is_empty() => self.take_words(part),
+            _ => self.take_behind(part),
+        }
+    }
+
+    // Takes in a part behind the bytes pending: what finishes their word, and what comes after it.
+    #[tactic(auto, using(crate::proofs::EvaluationSteps::bytes_held))]
+    fn take_behind(&mut self, part: &[u8])
         ensures { self.new ≡ absorbed evaluation_family self.old part.now }
     {
         // A part that does not finish the word is held.

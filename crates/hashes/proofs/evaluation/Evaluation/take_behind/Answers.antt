@@ -3,7 +3,7 @@ use Rattle.hashes.specs.Evaluation.{evaluation_family, evaluation_state}
 use Rattle.hashes.specs.Family.{absorbed}
 use Rattle.hashes.proofs.Absorbed.{absorbed_split}
 use Rattle.hashes.proofs.EvaluationSteps.{word_finished}
-use Rattle.hashes.proofs.evaluation.Evaluation.take_part.Goals as goal
+use Rattle.hashes.proofs.evaluation.Evaluation.take_behind.Goals as goal
 
 pub returns : goal.returns
 returns c =
