@@ -33,7 +33,7 @@ walk (f ∷ fs) s rest h k (suc fuel) bytes l e =
     let n = field_shorter bytes f left begins in
     rw (ap next_field begins ∙ next_field_reads f left, is_no_seal f h.0, walk fs s rest h.1 k fuel left (omega arith) refl)
 
-message_before : (image m : List ℕ) → BeforeSeal image m → message_of image ≡ m
+pub message_before : (image m : List ℕ) → BeforeSeal image m → message_of image ≡ m
 message_before image m b = walk b.fields b.seal b.rest b.others b.is_one (length image) image (omega arith) b.split ∙ sym b.same
 
 -- the walk finds a seal field, or goes to the end

@@ -11,11 +11,11 @@ use Rattle.register.specs.View.{View, standing, reply, after, sealed, pad_length
 use Rattle.register.specs.Writing.{put, filled_up, Holds, output_after}
 use Rattle.register.specs.Inputs.{input_reply, input_after, input_output}
 use Rattle.register.specs.Image.{Unframed, FramingFault, Outcome, Checks, check}
-use Rattle.register.specs.ImageMessage.{MessageOf, message_of}
+use Rattle.register.specs.ImageMessage.{BeforeSeal, MessageOf, message_of}
 use Rattle.register.specs.Check.{Passes, checked, says}
 
 pub record RegisterFacts (M : Meaning) : Type 0 where
-  -- the function `refusal` gives the first row that fits, or none
+  -- the function `first_fault` gives the first row that fits, or none
   pub rows_agree : (before : List Record) (r : Record) (f : RecordFault) → (first_fault before r ≡ Some f) ↔ Refused before r f
   pub none_agrees : (before : List Record) (r : Record) → (first_fault before r ≡ None) ↔ Accepted before r
   -- the numbers and the name of a record that a book takes
@@ -63,6 +63,11 @@ pub record RegisterFacts (M : Meaning) : Type 0 where
       (checked M buffer image ≡ says 1) ↔ Passes M buffer image
   -- bytes begin with no field of an image for one of three causes
   pub framing_agrees : (bytes : List ℕ) → Bytes bytes → Unframed bytes ↔ FramingFault bytes
+  -- an image's message is what stands before its first seal field, whatever numbers those are
+  pub message_before : (image m : List ℕ) → BeforeSeal image m → message_of image ≡ m
+  -- and an image without one is its own message
+  pub message_whole : (image : List ℕ) → Bytes image → ((m : List ℕ) → ¬ BeforeSeal image m)
+      → message_of image ≡ image
   -- an image has one message, which `message_of` gives
   pub message_agrees : (image m : List ℕ) → Bytes image → (message_of image ≡ m) ↔ MessageOf image m
   -- of a name that is too long its first bytes, one more than a name may have, decide what a call

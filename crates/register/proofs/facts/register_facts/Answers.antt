@@ -1,8 +1,9 @@
 use Rattle.std.proofs.Common.{[], length, arith}
+use Rattle.register.specs.ImageMessage.{everything}
 use Rattle.register.proofs.Bounds.{book_bytes}
 use Rattle.register.proofs.Checked.{opened_is, opened_key}
 use Rattle.register.proofs.Encoding.{message_inj}
-use Rattle.register.proofs.ImageMessages.{message_agrees}
+use Rattle.register.proofs.ImageMessages.{message_agrees, message_before}
 use Rattle.register.proofs.Images.{check_is, check_only, unframed_iff}
 use Rattle.register.proofs.LongNames.{long_name}
 use Rattle.register.proofs.Passing.{passes_iff}
@@ -38,6 +39,8 @@ returns-clause-facts g c = record {
   one_check = λ code image o bs h. check_only code (length image) [] image 0 o (omega arith) bs h;
   passes_agree = passes_iff g.F.Family.meaning;
   framing_agrees = unframed_iff;
+  message_before = message_before;
+  message_whole = λ image bs none. (message_agrees image image bs).1 (everything none);
   message_agrees = message_agrees;
   long_name = long_name g.F.Family.meaning;
 }
