@@ -1,5 +1,5 @@
 -- The sums worked by hand, by computing; the reducible polynomial by its square root.
-use Rattle.std.proofs.Common.{◌≡◌, ℕ, ◌+◌, ◌^◌, [], ◌∷◌, ◌++◌, replicate, Ok, Err, codes, refl, ap, arith}
+use Rattle.std.proofs.Common.{◌≡◌, ℕ, ◌+◌, ◌^◌, [], ◌∷◌, ◌++◌, replicate, Ok, Err, bit_xor, codes, refl, ap, arith}
 use lib.Count.{ones}
 use Rattle.hashes.specs.Division.{division, division_family, division_hash}
 use Rattle.hashes.specs.Evaluation.{evaluation, evaluation_family, evaluation_hash, words}
@@ -16,7 +16,7 @@ use Rattle.register.specs.Records.{Record, zone}
 use Rattle.register.specs.Run.{a_record, unread}
 use Rattle.register.specs.View.{opening, standing}
 use Rattle.line_reader.specs.Making.{made}
-use Rattle.line_reader.specs.SiteInput.{input_answer}
+use Rattle.line_reader.specs.SiteInput.{input_answer, no_seal, unless_refused_key}
 use Rattle.line_reader.specs.WorkedInputs.{WorkedInputs, padded_one, point_one, site, site_image}
 use Rattle.line_reader.specs.WorkedSums.{Adds, WorkedSums, reducible_buffer, zone_seven}
 use Rattle.line_reader.proofs.Asked.{lines_exact}
@@ -118,6 +118,11 @@ site_passes : checked evaluation_family padded_one site_image ≡ says 1
 unfolding evaluation words powers_sum power times_mod times remainder remainder_at horner horner_within reduce degree
 site_passes = refl
 
+no_key : input_answer (1 ∷ reducible_buffer) ≡ no_seal 3
+no_key =
+    ap (λ refusal. unless_refused_key refusal (Ok (12, bit_xor (division_hash 5 []) 0)))
+    ((division_facts.others (replicate 7 0 ++ (5 ∷ []))).1 reducible)
+
 pub worked_inputs : WorkedInputs
 worked_inputs = record {
   zone = input_zone;
@@ -125,6 +130,7 @@ worked_inputs = record {
   site_made = site_made;
   site_passes = site_passes;
   carriage_return = refl;
+  no_key = no_key;
   no_code = refl;
   code_zero = refl;
   code_four = refl;

@@ -4,6 +4,7 @@ use Rattle.hashes.specs.Evaluation.{evaluation_family}
 use Rattle.register.specs.Check.{checked, says}
 use Rattle.line_reader.specs.Making.{made}
 use Rattle.line_reader.specs.SiteInput.{input_answer, no_seal}
+use Rattle.line_reader.specs.WorkedSums.{reducible_buffer}
 
 -- the point 1 and a pad of zeros, as a key buffer of the evaluation hash
 abbrev pub point_one : List ℕ
@@ -39,6 +40,8 @@ pub record WorkedInputs : Type 0 where
   pub carriage_return :
       input_answer (3 ∷ (point_one ++ (codes "zone 7 \"A\"" ++ (0x0D ∷ 0x0A ∷ []))))
       ≡ Err (11, (1, 10))
+  -- a polynomial that is no key
+  pub no_key : input_answer (1 ∷ reducible_buffer) ≡ no_seal 3
   -- no code, and codes that pick no family
   pub no_code : input_answer [] ≡ no_seal 4
   pub code_zero : input_answer (0 ∷ point_one) ≡ no_seal 4
