@@ -5,6 +5,7 @@
 ghost use Rattle.std.specs.Prelude.{◌≡◌, length, take, replicate, Some, Ok, Err};
 ghost use Rattle.std.specs.Prelude.{IfSome, IfOk, OnOk, MatchResult};
 ghost use Rattle.std.specs.Io.{ReadsAtMost};
+ghost use Rattle.std.specs.Fmt.InlineText.{inline_text};
 ghost use Rattle.std.specs.Io.KnownBytes.{Appends};
 ghost use Rattle.line_reader.specs.SiteInput.{input_answer};
 ghost use Rattle.sealsite.specs.Input.{ReadsInput};
@@ -12,6 +13,7 @@ ghost use Rattle.sealsite.specs.AnswerText.{answer_text, answer_line};
 
 use line_reader::fault::Refusal;
 use line_reader::site_input::{LONGEST_INPUT, seal_input};
+use std::fmt::InlineText;
 use std::io::{Read, Write};
 use std::{fmt, io};
 
@@ -81,6 +83,34 @@ fn answer_of<R: Read>(reader: &mut R) -> io::Result<Answer>
     Ok(Answer(seal_read(&mut input, read)?))
 }
 
+// Room for the longest line: `refused`, a number of three digits, and a line and a column of twenty
+// digits each.
+const LINE_ROOM: usize = 66;
+
+// A text in memory of its own. None where it has no room, which the line of no answer lacks.
+#[tactic(auto, using(crate::proofs::Written::all_written))]
+fn text_of<D: fmt::Display + Drop>(value: D) -> Option<InlineText<LINE_ROOM>>
+    ensures { IfSome result (λ text. IfSome (D.output value) (λ bytes. inline_text text ≡ bytes)) }
+{
+    let mut text = InlineText::new();
+    match fmt::Write::write(&mut text, value) {
+        Ok(()) => Some(text),
+        Err(_) => None,
+    }
+}
+
+// Writes an answer as one line. The line is handed over whole: of one that is written piece by
+// piece, whoever reads the other end may get a part.
+fn write_line<W: Write>(writer: &mut W, answer: Answer) -> io::Result<()>
+    ensures { OnOk result (Appends (W.contents writer.old) (W.contents writer.new)
+        (answer_line answer.0)) }
+{
+    match text_of(format_args!("{answer}\n")) {
+        Some(line) => writer.write_all(line.as_str().as_bytes()),
+        None => writeln!(writer, "{answer}"),
+    }
+}
+
 // Writes the answer to all that a reader gives, as one line.
 fn seal_site<R: Read, W: Write>(reader: &mut R, writer: &mut W) -> io::Result<()>
     ensures { OnOk result (IfSome (R.remaining reader.old)
@@ -88,7 +118,7 @@ fn seal_site<R: Read, W: Write>(reader: &mut R, writer: &mut W) -> io::Result<()
         (answer_line (input_answer all)))) }
 {
     let answer = answer_of(reader)?;
-    writeln!(writer, "{answer}")
+    write_line(writer, answer)
 }
 
 fn main(rt: HostRuntime) -> io::Result<()> {
