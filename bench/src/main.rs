@@ -1,8 +1,6 @@
 //! Compares the verified library with the independent implementation, then times both.
 //!
-//!     bench [COUNT [SEED]]          both
-//!     bench compare [COUNT [SEED]]  the comparison alone
-//!     bench time [SEED]             the times alone
+//!     bench [compare | time] [COUNT [SEED]]
 
 mod compare;
 mod ffi;
@@ -30,16 +28,14 @@ fn order(arguments: &[String]) -> Option<Order> {
         _ => (true, true, arguments),
     };
     let number = |i: usize, default| numbers.get(i).map_or(Some(default), |number| number.parse().ok());
-    // Only what is compared has a count.
-    let (count, seeds) = if compare { (number(0, DEFAULT_COUNT)?, 1) } else { (0, 0) };
-    let order = Order { compare, time, count, seed: number(seeds, DEFAULT_SEED)? };
-    if numbers.len() > seeds + 1 { None } else { Some(order) }
+    let order = Order { compare, time, count: number(0, DEFAULT_COUNT)?, seed: number(1, DEFAULT_SEED)? };
+    if numbers.len() > 2 { None } else { Some(order) }
 }
 
 fn main() -> ExitCode {
     let arguments: Vec<String> = env::args().skip(1).collect();
     let Some(order) = order(&arguments) else {
-        eprintln!("usage: bench [COUNT [SEED]] | bench compare [COUNT [SEED]] | bench time [SEED]");
+        eprintln!("usage: bench [compare | time] [COUNT [SEED]]");
         return ExitCode::from(2);
     };
     if order.compare {

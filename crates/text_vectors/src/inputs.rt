@@ -2,7 +2,7 @@
 use crate::known;
 use crate::known::{Refused, Sealed};
 use line_reader::fault::Refusal;
-use line_reader::site_input::{LONGEST_INPUT, seal_input};
+use line_reader::site_input::seal_input;
 use std::io;
 use std::io::Print;
 use tally::Tally;
@@ -93,8 +93,8 @@ const REFUSED: [Refused; 12] = [
     },
 ];
 
-// One byte more than an input may have.
-const TOO_MANY: usize = LONGEST_INPUT + 1;
+// One byte more than an input may have. The number itself, since it is a known value.
+const TOO_MANY: usize = 65_537;
 
 // The longest of the inputs here. Sealing zeroes its input, so a copy of each is sealed, in fixed memory, so that nothing here can run out of it.
 const ROOM: usize = 64;
