@@ -211,9 +211,9 @@ impl Evaluation {
         }
     }
 
-    // Takes in a part. A byte alone is put to the bytes pending without a loop, and where none are
-    // pending whole words are read as they stand: put together byte by byte, a part of one byte or of
-    // eight took half as long again.
+    // Takes in a part. A byte alone that finishes no word is put to the bytes pending without a loop,
+    // and where none are pending whole words are read as they stand. With loops for both, a part of
+    // one byte took half as long again, and a part of eight a quarter.
     #[tactic(auto, using(crate::proofs::EvaluationSteps::bytes_held))]
     fn take_part(&mut self, part: &[u8])
         ensures { self.new ≡ absorbed evaluation_family self.old part.now }

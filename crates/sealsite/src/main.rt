@@ -87,7 +87,7 @@ fn answer_of<R: Read>(reader: &mut R) -> io::Result<Answer>
 // digits each.
 const LINE_ROOM: usize = 66;
 
-// A text in memory of its own. None where it has no room, which the line of no answer lacks.
+// A text in memory of its own; None where it has no room. The line of each answer has room.
 #[tactic(auto, using(crate::proofs::Written::all_written))]
 fn text_of<D: fmt::Display + Drop>(value: D) -> Option<InlineText<LINE_ROOM>>
     ensures { IfSome result (λ text. IfSome (D.output value) (λ bytes. inline_text text ≡ bytes)) }
