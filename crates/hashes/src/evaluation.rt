@@ -226,7 +226,9 @@ impl Evaluation {
     }
 
     // Takes in a part behind the bytes pending: what finishes their word, and what comes after it.
+    // Inlined, it would have each call save registers, also that for a byte alone.
     #[tactic(auto, using(crate::proofs::EvaluationSteps::bytes_held))]
+    #[inline(never)]
     fn take_behind(&mut self, part: &[u8])
         ensures { self.new ≡ absorbed evaluation_family self.old part.now }
     {
