@@ -1,19 +1,18 @@
 -- The evaluation hash's steps: a product by half bytes, and the bytes of a part.
-use Rattle.std.proofs.Common.{◌≡◌, ℕ, zero, suc, ◌+◌, ◌*◌, ◌/◌, ◌%◌, ◌^◌, ◌<◌, ◌≢◌, Bool, true, false, cond, eqb, List, [], ◌∷◌, ◌++◌, length, get_or, set, sym, refl, ap, ◌∙◌, ap₂, append_assoc, append-nil, mod-lt, mul_right_comm, zero-add, arith, length-append, pow_pos, get_or-set_other, get_or-set_same, below_more}
+use Rattle.std.proofs.Common.{◌≡◌, ℕ, zero, suc, ◌+◌, ◌*◌, ◌/◌, ◌%◌, ◌^◌, ◌<◌, ◌≢◌, Bool, true, false, cond, eqb, List, [], ◌∷◌, ◌++◌, length, get_or, set, sym, refl, ap, ◌∙◌, ap₂, append_assoc, append-nil, mod-lt, mul_comm, mul_right_comm, zero-add, arith, length-append, pow_pos, get_or-set_other, get_or-set_same, below_more}
 use native.Mathlib.Decide.{ℕ_discrete}
-use native.Mathlib.Nat.{mod-one}
+use native.Mathlib.Nat.{div-div-eq-div-mul, mod-one}
 use lib.Bits.{bit_xor, xor_shifted}
-use lib.Pow.{split}
 use Rattle.std.proofs.lemmas.Nat.{xor_lt}
 use Rattle.hashes.specs.Division.{division}
-use Rattle.hashes.specs.Evaluation.{evaluation_state, evaluation_family, evaluation_next, modulus, with_word}
+use Rattle.hashes.specs.Evaluation.{evaluation_state, evaluation_family, evaluation_next, lower_halves, modulus, with_word}
 use Rattle.hashes.specs.Family.{absorbed}
 use Rattle.hashes.specs.Polynomial.{degree, remainder, times, times_mod}
 use Rattle.hashes.specs.Word.{word}
 use Rattle.hashes.proofs.Sums.{lower_digits, next_place}
 use Rattle.hashes.proofs.Multiples.{half_byte_up, multiple_one, multiple_up}
 use Rattle.hashes.specs.Divisors.{irreducible_pos}
-use Rattle.hashes.specs.FieldLemmas.{mod_assoc, mod_comm, mod_rem_l, mod_xor_l, mod_xor_r, mod_zero_l}
+use Rattle.hashes.specs.FieldLemmas.{mod_assoc, mod_rem_l, mod_xor_l, mod_zero_l}
 use Rattle.hashes.specs.Modulus.{modulus_degree, modulus_irreducible}
 use Rattle.hashes.specs.Remainder.{remainder_small}
 use Rattle.hashes.specs.Times.{times_one_r, times_xor_r}
@@ -73,35 +72,65 @@ multiples_rows_more a i rows row within filled before =
 
 -- ---- a product by half bytes
 
--- what the sums over the lower and the upper half bytes come to
-abbrev pub Added : ℕ → ℕ → ℕ → ℕ → Type 0
-Added a v low high = bit_xor (times_mod modulus 16 high) low ≡ times_mod modulus v a
+pub no_half : (a v : ℕ) → 0 ≡ times_mod modulus (lower_halves 0 v) a
+unfolding lower_halves
+no_half a v = sym (mod_zero_l modulus pos a)
 
-pub none_added : (a v : ℕ) → Added a (v % 1) 0 0
-none_added a v =
-    ap (λ (x : ℕ). bit_xor x 0) (mod_comm modulus pos 16 0 ∙ mod_zero_l modulus pos 16)
-    ∙ sym (ap (λ (x : ℕ). times_mod modulus x a) (mod-one v) ∙ mod_zero_l modulus pos a)
+-- the sum for the bytes below place j, and the entry for that at place j, whose bits and those above are r
+pub half_added : (a v j r sum d : ℕ) → r ≡ v / 2 ^ (8 * j) → d ≡ multiple a j (r % 16) → sum ≡ times_mod modulus (lower_halves j v) a
+    → bit_xor sum d ≡ times_mod modulus (lower_halves (j + 1) v) a
+unfolding lower_halves
+half_added a v j r sum d left p before =
+    ap₂ bit_xor before (p ∙ ap (λ (x : ℕ). multiple a j (x % 16)) left)
+    ∙ sym (mod_xor_l modulus pos (lower_halves j v) (v / 2 ^ (8 * j) % 16 * 2 ^ (8 * j)) a)
+    ∙ ap (λ (n : ℕ). times_mod modulus (lower_halves n v) a) next
+  where
+    next : suc j ≡ j + 1
+    next = omega arith
 
--- both halves of a byte b in place j
-both_halves : (a j b low high : ℕ) → low ≡ multiple a j (b % 16) → high ≡ multiple a j (b / 16) → Added a (b * 2 ^ (8 * j)) low high
-both_halves a j b low high p q =
-    ap₂ bit_xor (ap (times_mod modulus 16) q ∙ multiple_up modulus pos 4 (b / 16 * 2 ^ (8 * j)) a) p
-    ∙ sym (mod_xor_l modulus pos (b / 16 * 2 ^ (8 * j) * 2 ^ 4) (b % 16 * 2 ^ (8 * j)) a)
-    ∙ ap (λ (x : ℕ). times_mod modulus x a)
-    (ap (λ (x : ℕ). bit_xor x (b % 16 * 2 ^ (8 * j))) (mul_right_comm (b / 16) (2 ^ (8 * j)) (2 ^ 4))
-    ∙ xor_shl (b / 16 * 2 ^ 4) (b % 16) (8 * j)
-    ∙ ap (λ (x : ℕ). x * 2 ^ (8 * j)) (xor_shifted (b / 16) 4 (b % 16) (mod-lt b (pow_pos 4)) ∙ split b 4))
+-- both halves of the byte at place j
+both_halves : (v j : ℕ)
+    → bit_xor (v / 16 / 2 ^ (8 * j) % 16 * 2 ^ (8 * j) * 2 ^ 4) (v / 2 ^ (8 * j) % 16 * 2 ^ (8 * j)) ≡ v / 2 ^ (8 * j) % 2 ^ 8 * 2 ^ (8 * j)
+both_halves v j =
+    ap (λ (x : ℕ). bit_xor x (b % 16 * 2 ^ (8 * j))) (ap (λ (x : ℕ). x * 2 ^ (8 * j) * 2 ^ 4) upper ∙ mul_right_comm (b / 16 % 16) (2 ^ (8 * j)) (2 ^ 4))
+    ∙ xor_shl (b / 16 % 16 * 2 ^ 4) (b % 16) (8 * j)
+    ∙ ap (λ (x : ℕ). x * 2 ^ (8 * j)) (xor_shifted (b / 16 % 16) 4 (b % 16) (mod-lt b (pow_pos 4)) ∙ omega arith)
+  where
+    b : ℕ
+    b = v / 2 ^ (8 * j)
 
--- the sums for the bytes below place j, and the entries for that at place j, whose bits and those above are r
-pub byte_added : (a v j r low high d e : ℕ) → r ≡ v / 2 ^ (8 * j) → d ≡ multiple a j (r % 16) → e ≡ multiple a j (r / 16 % 16)
-    → Added a (v % 2 ^ (8 * j)) low high → Added a (v % 2 ^ (8 * (j + 1))) (bit_xor low d) (bit_xor high e)
-byte_added a v j r low high d e left p q before =
-    ap (λ (x : ℕ). bit_xor x (bit_xor low d)) (mod_xor_r modulus pos 16 high e)
-    ∙ xor_swap (times_mod modulus 16 high) (times_mod modulus 16 e) low d
-    ∙ ap₂ bit_xor before (both_halves a j (r % 256) d e (p ∙ ap (multiple a j) (omega arith)) (q ∙ ap (multiple a j) (omega arith)))
-    ∙ ap (λ (x : ℕ). bit_xor (times_mod modulus (v % 2 ^ (8 * j)) a) (times_mod modulus (x % 256 * 2 ^ (8 * j)) a)) left
-    ∙ sym (mod_xor_l modulus pos (v % 2 ^ (8 * j)) (v / 2 ^ (8 * j) % 256 * 2 ^ (8 * j)) a)
-    ∙ ap (λ (x : ℕ). times_mod modulus x a) (sym (lower_digits 8 v j))
+    upper : v / 16 / 2 ^ (8 * j) % 16 ≡ b / 16 % 16
+    upper =
+        ap (λ (x : ℕ). x % 16)
+        (div-div-eq-div-mul v 16 (2 ^ (8 * j)) ∙ ap (λ (x : ℕ). v / x) (mul_comm 16 (2 ^ (8 * j))) ∙ sym (div-div-eq-div-mul v (2 ^ (8 * j)) 16))
+
+-- the upper halves, moved up, and the lower ones
+halves_joined : (v n : ℕ) → bit_xor (lower_halves n (v / 16) * 2 ^ 4) (lower_halves n v) ≡ v % 2 ^ (8 * n)
+unfolding lower_halves
+halves_joined v zero = sym (mod-one v)
+halves_joined v (suc n) =
+    ap (λ (x : ℕ). bit_xor x (bit_xor (lower_halves n v) low)) (sym (xor_shl (lower_halves n (v / 16)) high 4))
+    ∙ xor_swap (lower_halves n (v / 16) * 2 ^ 4) (high * 2 ^ 4) (lower_halves n v) low
+    ∙ ap₂ bit_xor (halves_joined v n) (both_halves v n)
+    ∙ sym (lower_digits 8 v n)
+    ∙ ap (λ (k : ℕ). v % 2 ^ (8 * k)) next
+  where
+    high : ℕ
+    high = v / 16 / 2 ^ (8 * n) % 16 * 2 ^ (8 * n)
+
+    low : ℕ
+    low = v / 2 ^ (8 * n) % 16 * 2 ^ (8 * n)
+
+    next : n + 1 ≡ suc n
+    next = omega arith
+
+-- the product of a word, by the sums for its upper and for its lower halves
+pub halves_added : (a v low high up : ℕ) → v < 2 ^ 64 → high ≡ times_mod modulus (lower_halves 8 (v / 16)) a → low ≡ times_mod modulus (lower_halves 8 v) a
+    → up ≡ times_mod modulus 16 high → bit_xor up low ≡ times_mod modulus v a
+halves_added a v low high up lt p q e =
+    ap₂ bit_xor (e ∙ ap (times_mod modulus 16) p ∙ multiple_up modulus pos 4 (lower_halves 8 (v / 16)) a) q
+    ∙ sym (mod_xor_l modulus pos (lower_halves 8 (v / 16) * 2 ^ 4) (lower_halves 8 v) a)
+    ∙ ap (λ (x : ℕ). times_mod modulus x a) (halves_joined v 8 ∙ omega arith)
 
 -- ---- a part
 

@@ -1,6 +1,6 @@
 -- The evaluation hash: the message's words as the coefficients of a polynomial over the field of the residues modulo
 -- x^64 + x^4 + x^3 + x + 1, evaluated at the key's point.
-use Rattle.std.specs.Prelude.{◌≡◌, ℕ, zero, suc, ◌+◌, ◌-◌, ◌/◌, ◌%◌, ◌^◌, cond, ◌≢◌, ◌↔◌, List, [], ◌∷◌, ◌++◌, length, take, drop, replicate, Some, None, ◌==◌, bit_xor}
+use Rattle.std.specs.Prelude.{◌≡◌, ℕ, zero, suc, ◌+◌, ◌-◌, ◌*◌, ◌/◌, ◌%◌, ◌^◌, cond, ◌≢◌, ◌↔◌, List, [], ◌∷◌, ◌++◌, length, take, drop, replicate, Some, None, ◌==◌, bit_xor}
 use Rattle.hashes.specs.Family.{Meaning, hash}
 use Rattle.hashes.specs.Field.{powers_sum}
 use Rattle.hashes.specs.KeyFault.{zero_refusal}
@@ -70,6 +70,15 @@ evaluation_family = record {
   close = evaluation_close;
   bound = λ L. L / 8 + 2;
 }
+
+-- ---- a product by half bytes
+
+-- the lower halves of the lowest n bytes of v, each where it stands
+unfoldable pub lower_halves : ℕ → ℕ → ℕ
+lower_halves zero v = 0
+lower_halves (suc n) v = bit_xor (lower_halves n v) (v / 2 ^ (8 * n) % 16 * 2 ^ (8 * n))
+
+-- ---- the facts
 
 -- what the family comes to
 pub record EvaluationFacts : Type 0 where

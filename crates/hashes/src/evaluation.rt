@@ -2,7 +2,7 @@
 ghost use Rattle.std.specs.Prelude.{◌≡◌, Decides, ℕ, ◌*◌, ◌%◌, ◌^◌, ◌<◌, ◌+◌, List, [], ◌∷◌, ◌++◌, length, slice_index, slice_index_or};
 ghost use Rattle.std.specs.Int.{bytes_high_first};
 ghost use Rattle.std.specs.Int.Digits.{number_from_digits_after};
-ghost use Rattle.hashes.specs.Evaluation.{EvaluationFacts, EvaluationState, evaluation_family, evaluation_hash, evaluation_state, modulus, padded, with_word};
+ghost use Rattle.hashes.specs.Evaluation.{EvaluationFacts, EvaluationState, evaluation_family, evaluation_hash, evaluation_state, lower_halves, modulus, padded, with_word};
 ghost use Rattle.hashes.specs.Family.{absorbed};
 ghost use Rattle.hashes.specs.Polynomial.{times_mod};
 ghost use Rattle.hashes.specs.Word.{word};
@@ -32,18 +32,28 @@ struct Multiples {
 }
 
 impl Multiples {
-    // v times the point: one lookup for each half byte of v. The upper ones are added up as if they were the lower ones, and moved up at the end.
+    // The lower half of each byte of v, where it stands, times the point: one lookup for each.
+    fn times_lower_halves(&self, v: u64) -> u64
+        ensures { result ≡ times_mod modulus (lower_halves 8 v) self.now.point }
+    {
+        let mut sum = 0;
+        let mut rest = v;
+        for row in &self.rows {
+            sum ^= row[(rest % 16) as usize];
+            rest >>= 8;
+        }
+        sum
+    }
+
+    // v times the point. The upper half bytes are multiplied as if they were the lower ones, and
+    // moved up at the end. With both sums in one loop, its lookups would not fit into the registers
+    // that a call need not save.
+    #[tactic(auto, using(crate::proofs::EvaluationSteps::halves_added))]
     fn times(&self, v: u64) -> u64
         ensures { result ≡ times_mod modulus v self.now.point }
     {
-        let mut low = 0;
-        let mut high = 0;
-        let mut rest = v;
-        for row in &self.rows {
-            low ^= row[(rest % 16) as usize];
-            high ^= row[((rest >> 4) % 16) as usize];
-            rest >>= 8;
-        }
+        let high = self.times_lower_halves(v >> 4);
+        let low = self.times_lower_halves(v);
         half_byte_up(high) ^ low
     }
 
@@ -125,20 +135,22 @@ impl Pending {
         8 - self.len
     }
 
-    fn extend(&mut self, part: &[u8])
-        requires { length self.old + length part.now < 8 }
-        ensures { self.new ≡ self.old ++ part.now }
-    {
-        self.word = with_bytes(self.word, part);
-        self.len += part.len();
-    }
-
     fn push(&mut self, byte: u8)
         requires { length self.old < 7 }
         ensures { self.new ≡ self.old ++ (byte ∷ []) }
     {
         self.word = with_byte(self.word, byte);
         self.len += 1;
+    }
+
+    // Byte by byte, so that no byte, the usual case behind whole words, costs one comparison.
+    fn extend(&mut self, part: &[u8])
+        requires { length self.old + length part.now < 8 }
+        ensures { self.new ≡ self.old ++ part.now }
+    {
+        for byte in part {
+            self.push(*byte);
+        }
     }
 
     // The word that a part finishes.
@@ -211,36 +223,28 @@ impl Evaluation {
         }
     }
 
-    // Takes in a part. A byte alone that finishes no word is put to the bytes pending without a loop,
-    // and where none are pending whole words are read as they stand. With loops for both, a part of
-    // one byte took half as long again, and a part of eight a quarter.
-    #[tactic(auto, using(crate::proofs::EvaluationSteps::bytes_held))]
+    // Takes in a part: bytes until one finishes the word that is under way, and then whole words.
+    // A finished word leaves the loop for good: inside it, it would have each call save registers,
+    // also that for a byte alone.
     fn take_part(&mut self, part: &[u8])
         ensures { self.new ≡ absorbed evaluation_family self.old part.now }
     {
-        match part {
-            [byte] if self.pending.room() > 1 => self.pending.push(*byte),
-            _ if self.pending.is_empty() => self.take_words(part),
-            _ => self.take_behind(part),
-        }
-    }
-
-    // Takes in a part behind the bytes pending: what finishes their word, and what comes after it.
-    // Inlined, it would have each call save registers, also that for a byte alone.
-    #[tactic(auto, using(crate::proofs::EvaluationSteps::bytes_held))]
-    #[inline(never)]
-    fn take_behind(&mut self, part: &[u8])
-        ensures { self.new ≡ absorbed evaluation_family self.old part.now }
-    {
-        // A part that does not finish the word is held.
-        let Some((first, rest)) = part.split_at_checked(self.pending.room()) else {
-            self.pending.extend(part);
+        if self.pending.is_empty() {
+            self.take_words(part);
             return;
-        };
-        let word = self.pending.finished(first);
-        self.value = self.multiples.with_word(self.value, word);
-        self.pending.clear();
-        self.take_words(rest);
+        }
+        let mut rest = part;
+        while let Some((byte, after)) = rest.split_first() {
+            if self.pending.room() == 1 {
+                let word = self.pending.finished(&[*byte]);
+                self.value = self.multiples.with_word(self.value, word);
+                self.pending.clear();
+                self.take_words(after);
+                return;
+            }
+            self.pending.push(*byte);
+            rest = after;
+        }
     }
 
     // Takes in whole words, and the bytes after them, where no byte is pending.
