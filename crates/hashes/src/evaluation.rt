@@ -143,7 +143,7 @@ impl Pending {
         self.len += 1;
     }
 
-    // Byte by byte, so that no byte, the usual case behind whole words, costs one comparison.
+    // Byte by byte, so that an empty part, the usual case behind whole words, costs one comparison.
     fn extend(&mut self, part: &[u8])
         requires { length self.old + length part.now < 8 }
         ensures { self.new ≡ self.old ++ part.now }
@@ -224,8 +224,8 @@ impl Evaluation {
     }
 
     // Takes in a part: bytes until one finishes the word that is under way, and then whole words.
-    // A finished word leaves the loop for good: inside it, it would have each call save registers,
-    // also that for a byte alone.
+    // If the loop went on behind a finished word, each call would save registers for that, also one
+    // with a byte alone.
     fn take_part(&mut self, part: &[u8])
         ensures { self.new ≡ absorbed evaluation_family self.old part.now }
     {
