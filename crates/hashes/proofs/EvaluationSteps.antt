@@ -76,8 +76,10 @@ pub no_half : (a v : ℕ) → 0 ≡ times_mod modulus (lower_halves 0 v) a
 unfolding lower_halves
 no_half a v = sym (mod_zero_l modulus pos a)
 
--- the sum for the bytes below place j, and the entry for that at place j, whose bits and those above are r
-pub half_added : (a v j r sum d : ℕ) → r ≡ v / 2 ^ (8 * j) → d ≡ multiple a j (r % 16) → sum ≡ times_mod modulus (lower_halves j v) a
+-- the sum for the bytes below place j, and the entry for that at place j; its bits and those above
+-- are r
+pub half_added : (a v j r sum d : ℕ) → r ≡ v / 2 ^ (8 * j) → d ≡ multiple a j (r % 16)
+    → sum ≡ times_mod modulus (lower_halves j v) a
     → bit_xor sum d ≡ times_mod modulus (lower_halves (j + 1) v) a
 unfolding lower_halves
 half_added a v j r sum d left p before =
@@ -90,11 +92,15 @@ half_added a v j r sum d left p before =
 
 -- both halves of the byte at place j
 both_halves : (v j : ℕ)
-    → bit_xor (v / 16 / 2 ^ (8 * j) % 16 * 2 ^ (8 * j) * 2 ^ 4) (v / 2 ^ (8 * j) % 16 * 2 ^ (8 * j)) ≡ v / 2 ^ (8 * j) % 2 ^ 8 * 2 ^ (8 * j)
+    → bit_xor (v / 16 / 2 ^ (8 * j) % 16 * 2 ^ (8 * j) * 2 ^ 4) (v / 2 ^ (8 * j) % 16 * 2 ^ (8 * j))
+    ≡ v / 2 ^ (8 * j) % 2 ^ 8 * 2 ^ (8 * j)
 both_halves v j =
-    ap (λ (x : ℕ). bit_xor x (b % 16 * 2 ^ (8 * j))) (ap (λ (x : ℕ). x * 2 ^ (8 * j) * 2 ^ 4) upper ∙ mul_right_comm (b / 16 % 16) (2 ^ (8 * j)) (2 ^ 4))
+    ap (λ (x : ℕ). bit_xor x (b % 16 * 2 ^ (8 * j)))
+    (ap (λ (x : ℕ). x * 2 ^ (8 * j) * 2 ^ 4) upper
+    ∙ mul_right_comm (b / 16 % 16) (2 ^ (8 * j)) (2 ^ 4))
     ∙ xor_shl (b / 16 % 16 * 2 ^ 4) (b % 16) (8 * j)
-    ∙ ap (λ (x : ℕ). x * 2 ^ (8 * j)) (xor_shifted (b / 16 % 16) 4 (b % 16) (mod-lt b (pow_pos 4)) ∙ omega arith)
+    ∙ ap (λ (x : ℕ). x * 2 ^ (8 * j))
+    (xor_shifted (b / 16 % 16) 4 (b % 16) (mod-lt b (pow_pos 4)) ∙ omega arith)
   where
     b : ℕ
     b = v / 2 ^ (8 * j)
@@ -102,14 +108,18 @@ both_halves v j =
     upper : v / 16 / 2 ^ (8 * j) % 16 ≡ b / 16 % 16
     upper =
         ap (λ (x : ℕ). x % 16)
-        (div-div-eq-div-mul v 16 (2 ^ (8 * j)) ∙ ap (λ (x : ℕ). v / x) (mul_comm 16 (2 ^ (8 * j))) ∙ sym (div-div-eq-div-mul v (2 ^ (8 * j)) 16))
+        (div-div-eq-div-mul v 16 (2 ^ (8 * j))
+        ∙ ap (λ (x : ℕ). v / x) (mul_comm 16 (2 ^ (8 * j)))
+        ∙ sym (div-div-eq-div-mul v (2 ^ (8 * j)) 16))
 
 -- the upper halves, moved up, and the lower ones
-halves_joined : (v n : ℕ) → bit_xor (lower_halves n (v / 16) * 2 ^ 4) (lower_halves n v) ≡ v % 2 ^ (8 * n)
+halves_joined : (v n : ℕ)
+    → bit_xor (lower_halves n (v / 16) * 2 ^ 4) (lower_halves n v) ≡ v % 2 ^ (8 * n)
 unfolding lower_halves
 halves_joined v zero = sym (mod-one v)
 halves_joined v (suc n) =
-    ap (λ (x : ℕ). bit_xor x (bit_xor (lower_halves n v) low)) (sym (xor_shl (lower_halves n (v / 16)) high 4))
+    ap (λ (x : ℕ). bit_xor x (bit_xor (lower_halves n v) low))
+    (sym (xor_shl (lower_halves n (v / 16)) high 4))
     ∙ xor_swap (lower_halves n (v / 16) * 2 ^ 4) (high * 2 ^ 4) (lower_halves n v) low
     ∙ ap₂ bit_xor (halves_joined v n) (both_halves v n)
     ∙ sym (lower_digits 8 v n)
@@ -125,10 +135,14 @@ halves_joined v (suc n) =
     next = omega arith
 
 -- the product of a word, by the sums for its upper and for its lower halves
-pub halves_added : (a v low high up : ℕ) → v < 2 ^ 64 → high ≡ times_mod modulus (lower_halves 8 (v / 16)) a → low ≡ times_mod modulus (lower_halves 8 v) a
+pub halves_added : (a v low high up : ℕ) → v < 2 ^ 64
+    → high ≡ times_mod modulus (lower_halves 8 (v / 16)) a
+    → low ≡ times_mod modulus (lower_halves 8 v) a
     → up ≡ times_mod modulus 16 high → bit_xor up low ≡ times_mod modulus v a
 halves_added a v low high up lt p q e =
-    ap₂ bit_xor (e ∙ ap (times_mod modulus 16) p ∙ multiple_up modulus pos 4 (lower_halves 8 (v / 16)) a) q
+    ap₂ bit_xor
+    (e ∙ ap (times_mod modulus 16) p ∙ multiple_up modulus pos 4 (lower_halves 8 (v / 16)) a)
+    q
     ∙ sym (mod_xor_l modulus pos (lower_halves 8 (v / 16) * 2 ^ 4) (lower_halves 8 v) a)
     ∙ ap (λ (x : ℕ). times_mod modulus x a) (halves_joined v 8 ∙ omega arith)
 

@@ -5,7 +5,8 @@ use Rattle.hashes.proofs.evaluation.Evaluation.take_part.Given as goal
 
 -- what is left of the part leads to the state after all of it
 abbrev pub invariant-loop-byte : goal.invariant-loop-byte
-invariant-loop-byte l = absorbed evaluation_family l.self l.rest ≡ absorbed evaluation_family l.initial.self l.part
+invariant-loop-byte l =
+    absorbed evaluation_family l.self l.rest ≡ absorbed evaluation_family l.initial.self l.part
 
 abbrev pub decreases-loop-byte : goal.decreases-loop-byte
 decreases-loop-byte l = length l.rest
